@@ -1,0 +1,5 @@
+pub mod Entries
+pub mod Lengths
+pub mod Arms
+pub mod Reading
+pub mod Sets

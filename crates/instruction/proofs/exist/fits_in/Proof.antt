@@ -1,0 +1,18 @@
+-- `instruction::exist::fits_in` meets its contract.
+-- Assumes nothing.
+use borrow.Author.Tests.{lt-ltb, le-ltb}
+use borrow.Author.Needs.{needs}
+use Rattle.instruction.proofs.exist.fits_in.Statement.{statement}
+use Rattle.instruction.proofs.exist.fits_in.Tie as tie
+
+add-result : tie.Need-add-result
+add-result c = search needs
+
+returns : tie.Need-returns
+returns c = rw (lt-ltb _ _ (c .if1 .taken))
+
+returns-2 : tie.Need-returns-2
+returns-2 c = rw (le-ltb _ _ (c .if1 .left))
+
+pub fits-in-spec : {M : Type 1} → statement M
+fits-in-spec = tie.close (tie.spec add-result returns returns-2)

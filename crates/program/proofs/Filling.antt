@@ -1,0 +1,134 @@
+-- The table of places, filled from the front: below the offset of the turn it is done, from there on it is clear.
+-- Assumes nothing.
+use mathlib.Core.Path.{_≡_, refl, sym, _∙_}
+use mathlib.Core.List.{List, [], _∷_}
+use mathlib.Core.Bool.{Bool, true, false, cond, _&&_}
+use Prim.Native.Nat.{ℕ, zero, suc, _+_, _*_, _≤_, _<_}
+use native.Mathlib.Omega.{arith}
+use lib.ListN.{length, getD, set, length-set, replicate, length-replicate, getD-replicate, List·getD-eq-default}
+use lib.Seq.{getD-set-same, getD-set-other}
+use lib.Dec.{ltb, eqb}
+use borrow.Author.Tests.{lt-ltb, le-ltb, ltb-true, ltb-false, eqb-true, eqb-false, ne-eqb, eq-eqb}
+use Rattle.instruction.specs.Bytes.{byte, lengthOf}
+use Rattle.program.specs.Starts.{startsFrom, starts, refusalAt, firstRefusal, excludes, among, allAmong}
+use Rattle.program.specs.Places.{opcodeBefore, excludesBefore, placeFrom, placeOf, entryAt, startHere, allPlaced, Places}
+use Rattle.program.proofs.Tests.{bool-cases}
+use Rattle.program.proofs.Walks.{sound-next}
+
+-- no instruction starts past the end, nor before the offset where the list begins
+pub none-past : (p : List ℕ) (f o t : ℕ) → length p ≤ t → among t (startsFrom f p o) ≡ false
+unfolding among startsFrom
+none-past p zero o t h = refl
+none-past p (suc f) o t h =
+    let ih = none-past p f (o + lengthOf (byte p o)) t h in
+    bool-cases (ltb o (length p))
+    (λ b. let lt : o < length p = ltb-true _ _ b in let ne : o ≡ t → ⊥ = λ e. omega arith in rw (b, ne-eqb _ _ ne) ih)
+    (λ b. rw b)
+
+pub none-before : (p : List ℕ) (f o t : ℕ) → t < o → among t (startsFrom f p o) ≡ false
+unfolding among startsFrom
+none-before p zero o t h = refl
+none-before p (suc f) o t h =
+    let ih = none-before p f (o + lengthOf (byte p o)) t (omega arith) in
+    bool-cases (ltb o (length p)) (λ b. let ne : o ≡ t → ⊥ = λ e. omega arith in rw (b, ne-eqb _ _ ne) ih) (λ b. rw b)
+
+-- the byte of offset t from the offsets to come, k the opcode before them and e the EXCLUDEs before them
+unfoldable pub placeIn : List ℕ → ℕ → ℕ → List ℕ → ℕ → ℕ
+placeIn p k e os t = cond (among t os) (placeFrom (opcodeBefore p k os t) (byte p t) (e + excludesBefore p os t)) 0
+
+-- at the first of them; at another; at none
+place-here : (p : List ℕ) (k e o : ℕ) (os : List ℕ) → placeIn p k e (o ∷ os) o ≡ placeFrom k (byte p o) e
+unfolding placeIn among opcodeBefore excludesBefore
+place-here p k e o os = let z : e + 0 ≡ e = omega arith in rw (eq-eqb o o refl, z)
+
+place-later : (p : List ℕ) (k e o : ℕ) (os : List ℕ) (t : ℕ) → (o ≡ t → ⊥)
+    → placeIn p k e (o ∷ os) t ≡ placeIn p (byte p o) (e + cond (eqb (byte p o) 0x0D) 1 0) os t
+unfolding placeIn among opcodeBefore excludesBefore
+place-later p k e o os t ne =
+    let z : e + (cond (eqb (byte p o) 0x0D) 1 0 + excludesBefore p os t) ≡ e + cond (eqb (byte p o) 0x0D) 1 0 + excludesBefore p os t = omega arith in
+    rw (ne-eqb o t ne, z)
+
+place-none : (p : List ℕ) (k e : ℕ) (os : List ℕ) (t : ℕ) → among t os ≡ false → placeIn p k e os t ≡ 0
+unfolding placeIn
+place-none p k e os t h = rw h
+
+-- `places`: at the turn's offset; k is the opcode before it and e the number of EXCLUDEs before it
+pub record Filling (p m : List ℕ) (k e at : ℕ) (os : List ℕ) : Type 0 where
+  pub sound : firstRefusal p os ≡ 0
+  pub size : length m ≡ 2048
+  pub count : excludes p (starts p) ≡ e + excludes p os
+  pub done : (t : ℕ) → t < at → getD m t 0 ≡ placeOf p t
+  pub clear : (t : ℕ) → at ≤ t → getD m t 0 ≡ 0
+  pub todo : (t : ℕ) → at ≤ t → placeOf p t ≡ placeIn p k e os t
+
+place-first : (p : List ℕ) (t : ℕ) → placeOf p t ≡ placeIn p 0 0 (starts p) t
+unfolding placeOf placeIn
+place-first p t = let z : 0 + excludesBefore p (starts p) t ≡ excludesBefore p (starts p) t = omega arith in rw z
+
+zeros : (n t : ℕ) → _≡_ {A = ℕ} (getD (replicate n 0) t 0) 0
+zeros zero t = refl
+zeros (suc n) zero = refl
+zeros (suc n) (suc t) = zeros n t
+
+pub filling-first : (p : List ℕ) → firstRefusal p (starts p) ≡ 0 → Filling p (replicate 2048 0) 0 0 1 (starts p)
+unfolding starts
+filling-first p h = record {
+  sound = h;
+  size = length-replicate {A = ℕ} 2048 0;
+  count = omega arith;
+  done = λ t l. zeros 2048 t ∙ sym (place-first p t ∙ place-none p 0 0 (starts p) t (none-before p (length p) 1 t l));
+  clear = λ t l. zeros 2048 t;
+  todo = λ t l. place-first p t;
+}
+
+-- a turn: v goes to the offset, x is 1 for an EXCLUDE, and os are the offsets from `at + n` on
+module _ (p m : List ℕ) (k e at n v x : ℕ) (os : List ℕ) (q : Filling p m k e at (at ∷ os)) (low : at < 2048) (some : 0 < n)
+    (ev : v ≡ placeFrom k (byte p at) e) (ex : x ≡ cond (eqb (byte p at) 0x0D) 1 0) (none : (t : ℕ) → t < at + n → among t os ≡ false) where
+  later : (t : ℕ) → at < t → placeOf p t ≡ placeIn p (byte p at) (e + x) os t
+  later t l = q .todo t (omega arith) ∙ rw ex (place-later p k e at os t (λ d. omega arith))
+
+  filled : (t : ℕ) → t < at + n → getD (set m at v) t 0 ≡ placeOf p t
+  filled t l =
+      bool-cases (eqb at t)
+      (λ b.
+      let d : at ≡ t = eqb-true _ _ b in
+      rw (← d) (getD-set-same m at v 0 (omega (arith, q .size)) ∙ ev ∙ sym (q .todo at (omega arith) ∙ place-here p k e at os)))
+      (λ b.
+      let ne : at ≡ t → ⊥ = eqb-false _ _ b in
+      getD-set-other m at t v 0 (λ d. ne (sym d))
+      ∙ bool-cases (ltb t at)
+      (λ c. q .done t (ltb-true _ _ c))
+      (λ c. let ge : at ≤ t = ltb-false _ _ c in q .clear t ge ∙ sym (later t (omega arith) ∙ place-none p (byte p at) (e + x) os t (none t l))))
+
+  filled-turn : Filling p (set m at v) (byte p at) (e + x) (at + n) os
+  unfolding excludes
+  filled-turn = record {
+    sound = sound-next p at os (q .sound) .1;
+    size = rw length-set (q .size);
+    count = rw ex (omega (arith, q .count));
+    done = filled;
+    clear = λ t l. getD-set-other m at t v 0 (λ d. omega arith) ∙ q .clear t (omega arith);
+    todo = λ t l. later t (omega arith);
+  }
+
+pub filling-turn : (p m : List ℕ) (f : ℕ) {k e at n v x : ℕ} → at < 2048 → 0 < n → v ≡ placeFrom k (byte p at) e → x ≡ cond (eqb (byte p at) 0x0D) 1 0
+    → Filling p m k e at (at ∷ startsFrom f p (at + n)) → Filling p (set m at v) (byte p at) (e + x) (at + n) (startsFrom f p (at + n))
+filling-turn p m f {k} {e} {at} {n} {v} {x} low some ev ex q =
+    filled-turn p m k e at n v x (startsFrom f p (at + n)) q low some ev ex (none-before p f (at + n))
+
+-- the loop is left: every offset has its byte, those past the end too
+pub filling-done : (p m : List ℕ) {k e at : ℕ} → length p ≤ 2048 → Filling p m k e at [] → Places p m
+unfolding entryAt among placeOf starts
+filling-done p m {k} {e} {at} most q t =
+    bool-cases (ltb t 2048)
+    (λ b. rw b
+    (bool-cases (ltb t at)
+    (λ c. q .done t (ltb-true _ _ c))
+    (λ c. let ge : at ≤ t = ltb-false _ _ c in q .clear t ge ∙ sym (q .todo t ge ∙ place-none p k e [] t refl))))
+    (λ b. let ge : 2048 ≤ t = ltb-false _ _ b in rw (b, none-past p (length p) 1 t (omega arith)))
+
+-- the EXCLUDEs before the offset, and with it, are no more than all
+pub exclude-room : (p m : List ℕ) {k e at : ℕ} {os : List ℕ} → excludes p (starts p) ≤ 64 → Filling p m k e at (at ∷ os)
+    → (e ≤ 64) × (e + cond (eqb (byte p at) 0x0D) 1 0 ≤ 64)
+unfolding excludes
+exclude-room p m few q = let n = q .count in (omega arith, omega arith)

@@ -1,0 +1,12 @@
+pub mod Tests
+pub mod Reading
+pub mod Left
+pub mod Walks
+pub mod Filling
+pub mod PlaceLaws
+pub mod Deciding
+pub mod Grounds
+pub mod Accepted
+pub mod AfterLaws
+pub mod CellLaws
+pub mod Examples

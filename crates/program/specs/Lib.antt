@@ -1,0 +1,4 @@
+pub mod Starts
+pub mod Check
+pub mod Grounds
+pub mod Places

@@ -1,0 +1,59 @@
+//! A C host: compiles a program against the header, links it with the archive alone, and runs it.
+
+use std::fs::{self, File};
+use std::path::Path;
+use std::process::{Command, Output};
+
+const CRATE: &str = env!("CARGO_MANIFEST_DIR");
+
+fn text(bytes: &[u8]) -> String {
+    String::from_utf8_lossy(bytes).into_owned()
+}
+
+fn must_succeed(what: &str, output: &Output) {
+    assert!(
+        output.status.success(),
+        "{what} failed ({}):\n{}{}",
+        output.status,
+        text(&output.stdout),
+        text(&output.stderr)
+    );
+}
+
+#[test]
+fn a_c_program_checks_the_small_plan() {
+    let root = Path::new(CRATE).join("../..");
+    let small_plan = root.join("examples/small.plan");
+    let program = Path::new(env!("CARGO_TARGET_TMPDIR")).join("header");
+
+    assert_eq!(
+        fs::read(&small_plan).expect("examples/small.plan is there"),
+        [
+            0x02, 0x02, 0x00, 0x00, 0x00, 0x00, 0x00, 0x07, 0x01, 0x04, 0x00, 0x00, 0x01, 0x08,
+            0x00, 0x0D, 0x0E, 0x09, 0x07, 0x00,
+        ]
+    );
+
+    let compiled = Command::new("cc")
+        .args(["-std=c99", "-Wall", "-Wextra", "-Werror", "-I"])
+        .arg(root.join("include"))
+        .arg("-o")
+        .arg(&program)
+        .arg(Path::new(CRATE).join("tests/header.c"))
+        .arg(env!("PITSKELO_ARCHIVE"))
+        .output()
+        .unwrap_or_else(|error| panic!("this test needs the C compiler `cc`: {error}"));
+    must_succeed("cc", &compiled);
+
+    let run = Command::new(&program)
+        .stdin(File::open(&small_plan).expect("examples/small.plan can be read"))
+        .output()
+        .expect("the compiled program can be run");
+    must_succeed("the C program", &run);
+    assert_eq!(
+        text(&run.stdout),
+        "input: 0, 3 7 1\n\
+         unknown: 2, 1001 1002 1003\n\
+         null: 1, 1001 1002 1003\n"
+    );
+}

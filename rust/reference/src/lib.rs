@@ -1,0 +1,9 @@
+//! A second version of the plan engine. It is written from document 01 alone, never from the
+//! verified library, so that an error would have to be made twice to go unseen. It is meant to be
+//! read beside the document: plain before fast.
+
+pub mod check;
+pub mod program;
+pub mod refusal;
+
+pub use check::{check, Checked};

@@ -1,0 +1,18 @@
+//! The numbers of document 01's table of refused inputs.
+
+/// The plan is empty or over 2,048 bytes.
+pub const PLAN_LENGTH: u32 = 1;
+/// A byte where a command should begin is no command's.
+pub const UNKNOWN_OPCODE: u32 = 2;
+/// A command's operands pass the plan's end.
+pub const OPERANDS_CUT: u32 = 3;
+/// A command names a cell that doesn't exist.
+pub const NO_SUCH_CELL: u32 = 4;
+/// A table has length 0 or passes the last cell.
+pub const BAD_TABLE: u32 = 5;
+/// Over 512 instructions, or over 64 of them EXCLUDE.
+pub const TOO_MANY: u32 = 6;
+/// No instruction, or the last is neither END nor JUMP.
+pub const BAD_LAST_INSTRUCTION: u32 = 7;
+/// A jump's target isn't the offset of a instruction.
+pub const BAD_TARGET: u32 = 8;
