@@ -1,8 +1,7 @@
 -- The sets that the accesses of an instruction are made of.
 -- Assumes nothing.
-use mathlib.Core.Path.{_≡_, sym}
 use mathlib.Core.List.{List, [], _∷_}
-use Prim.Native.Nat.{ℕ, _+_, _<_, max}
+use Prim.Native.Nat.{ℕ, _+_, max}
 use native.Mathlib.Omega.{arith}
 use Rattle.cellset.specs.Bits.{has, is, within}
 use Rattle.cellset.specs.Sets.{SetIs}

@@ -1,4 +1,4 @@
--- The bytes of a program (document 01: a plan), the one table of lengths, and the instruction (a command) at an offset.
+-- The bytes of a program (document 01: a plan), the one table of lengths, and the instruction (document 01: a command) at an offset.
 -- Assumes nothing.
 use Prim.Native.Nat.{ℕ, _+_, _<_}
 use mathlib.Core.Path.{_≡_}

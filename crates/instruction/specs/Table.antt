@@ -1,8 +1,9 @@
--- Document 01's command table, a line for each row: which cells an instruction may read and may write, and where it may go. What it computes is the machine's.
+-- Document 01's command table, a line for each row: which cells an instruction may read and may write, and where it may go.
+-- What it computes is the machine's.
 -- Assumes nothing.
 use Prim.Native.Nat.{ℕ, _+_, max}
 use mathlib.Core.List.{List, [], _∷_, _++_}
-use mathlib.Core.Bool.{Bool, true, false, _&&_}
+use mathlib.Core.Bool.{Bool, true, _&&_}
 use lib.Dec.{leb, ltb}
 use Rattle.cellset.specs.Bits.{is, within}
 use Rattle.instruction.specs.Bytes.{byte, lengthOf, instructionAt}
@@ -16,7 +17,8 @@ pub data Table : Type 0 where
   noTable : Table
   tableAt : (base len : ℕ) → Table
 
--- the cells that an instruction may read, the table of which it may read a cell, the cells that it must write, the table of which it may write a cell, and where it may go
+-- the cells that an instruction may read and the table of which it may read a cell, the cells that it must write and the table of which it
+-- may write a cell, and where it may go
 pub record Row : Type 0 where
   pub refs : List ℕ
   pub refTable : Table
@@ -27,7 +29,7 @@ pub record Row : Type 0 where
 abbrev row : List ℕ → Table → List ℕ → Table → Flow → Row
 row r s d t f = record { refs = r; refTable = s; defs = d; defTable = t; flow = f }
 
--- the table
+-- the rows: "may read", "may write" and where the effect goes
 abbrev pub rowOf : Instruction → Row
 rowOf End = row [] noTable [] noTable Halt
 rowOf (Set d v) = row [] noTable (d ∷ []) noTable Next

@@ -1,14 +1,14 @@
 -- What an accepted program promises, for the crates above: each instruction is whole, its cells and its table exist, what may follow it is an instruction, and
 -- the last is END or JUMP.
 -- Assumes nothing.
-use mathlib.Core.Path.{_≡_, refl, sym, _∙_}
+use mathlib.Core.Path.{_≡_, refl, sym}
 use mathlib.Core.List.{List, [], _∷_}
-use mathlib.Core.Bool.{Bool, true, false, cond, not, _&&_, _||_, or-true, and-true}
+use mathlib.Core.Bool.{Bool, true, false, cond, not, _||_, or-true}
 use Prim.Native.Nat.{ℕ, zero, suc, _+_, _≤_, _<_}
 use native.Mathlib.Omega.{arith}
 use lib.ListN.{length}
 use lib.Dec.{ltb, eqb}
-use borrow.Author.Tests.{ltb-true, ltb-false, eqb-true, eqb-false, eq-eqb, ne-eqb, not-false}
+use borrow.Author.Tests.{ltb-true, ltb-false, eqb-true, eqb-false, eq-eqb, not-false}
 use Rattle.instruction.specs.Bytes.{byte, cellsOf, lengthOf, instructionAt}
 use Rattle.instruction.specs.Table.{rowOf, targets, successorsOf, successors, named, allBelow, tableFits}
 use Rattle.program.specs.Starts.{startsFrom, starts, refusalAt, firstRefusal, excludes, lastOpcode, among, allAmong, jumpsAmong}

@@ -3,7 +3,7 @@
 -- Assumes nothing.
 use mathlib.Core.Path.{_≡_, refl, sym, _∙_}
 use mathlib.Core.List.{List, [], _∷_}
-use mathlib.Core.Bool.{Bool, true, false, cond, _&&_, or-true}
+use mathlib.Core.Bool.{true, false, or-true}
 use Prim.Native.Nat.{ℕ, zero, suc, _+_, _≤_, _<_}
 use native.Mathlib.Omega.{arith}
 use lib.ListN.{length}
@@ -13,9 +13,8 @@ use Rattle.instruction.specs.Bytes.{byte, lengthOf}
 use Rattle.program.specs.Starts.{startsFrom, starts, firstRefusal, excludes, among}
 use Rattle.program.specs.Places.{opcodeBefore, excludesBefore, isStart, afterCheckpoint, isExclude, excludeNumber}
 use Rattle.program.proofs.Tests.{bool-cases, clash, or-cases, and-both}
-use Rattle.program.proofs.Left.{next}
 use Rattle.program.proofs.Walks.{whole, sound-next}
-use Rattle.program.proofs.Filling.{none-before, none-past}
+use Rattle.program.proofs.Filling.{none-before}
 use Rattle.program.proofs.Accepted.{Accepted, start-within, start-whole, start-next}
 
 -- before the first offset stands k

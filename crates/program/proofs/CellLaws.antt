@@ -1,18 +1,18 @@
 -- In an accepted program every cell that an instruction may read or may write exists, and what it must write it may write.
 -- Assumes nothing.
-use mathlib.Core.Path.{_≡_, refl, sym, _∙_}
+use mathlib.Core.Path.{_≡_, refl}
 use mathlib.Core.List.{List, [], _∷_, _++_}
 use mathlib.Core.Bool.{Bool, true, false, cond, _&&_}
 use Prim.Native.Nat.{ℕ, _+_, _≤_, _<_, max}
 use native.Mathlib.Omega.{arith}
 use lib.Dec.{ltb, leb, eqb}
 use borrow.Author.Tests.{ltb-true, leb-true, eqb-true, eqb-false}
-use Rattle.cellset.specs.Bits.{is, within}
+use Rattle.cellset.specs.Bits.{is}
 use Rattle.instruction.specs.Bytes.{cellsOf, instructionAt}
 use Rattle.instruction.specs.Table.{Table, noTable, tableAt, rowOf, oneOf, inTable, access, mayRef, mayDef, mustDef, named, allBelow, fitsIn, tableFits}
 use Rattle.program.specs.Places.{isStart}
 use Rattle.instruction.specs.declared.Instruction.{Instruction}
-use Rattle.program.proofs.Tests.{bool-cases, clash, and-both}
+use Rattle.program.proofs.Tests.{bool-cases, and-both}
 use Rattle.program.proofs.Accepted.{Accepted, start-cells}
 
 -- a test that is 1 held
@@ -53,11 +53,13 @@ below-append n (x ∷ xs) ys h =
 -- of an instruction whose cells and table exist
 refs-exist : (n : ℕ) (i : Instruction) (c : ℕ) → allBelow n (named i) ≡ true → tableFits n i ≡ true → mayRef i c ≡ 1 → c < n
 refs-exist n i c h k =
-    access-below n (rowOf i .refs) (rowOf i .refTable) c (below-append n (rowOf i .defs) (rowOf i .refs) h .1) (and-both (fitsIn n (rowOf i .refTable)) (fitsIn n (rowOf i .defTable)) k .0)
+    access-below n (rowOf i .refs) (rowOf i .refTable) c (below-append n (rowOf i .defs) (rowOf i .refs) h .1)
+    (and-both (fitsIn n (rowOf i .refTable)) (fitsIn n (rowOf i .defTable)) k .0)
 
 defs-exist : (n : ℕ) (i : Instruction) (c : ℕ) → allBelow n (named i) ≡ true → tableFits n i ≡ true → mayDef i c ≡ 1 → c < n
 defs-exist n i c h k =
-    access-below n (rowOf i .defs) (rowOf i .defTable) c (below-append n (rowOf i .defs) (rowOf i .refs) h .0) (and-both (fitsIn n (rowOf i .refTable)) (fitsIn n (rowOf i .defTable)) k .1)
+    access-below n (rowOf i .defs) (rowOf i .defTable) c (below-append n (rowOf i .defs) (rowOf i .refs) h .0)
+    (and-both (fitsIn n (rowOf i .refTable)) (fitsIn n (rowOf i .defTable)) k .1)
 
 module _ (p : List ℕ) {m n e : ℕ} (a : Accepted p m n e) (o : ℕ) (start : isStart p o ≡ true) where
   pub start-refs : (c : ℕ) → mayRef (instructionAt p o) c ≡ 1 → c < cellsOf p

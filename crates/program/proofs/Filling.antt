@@ -2,16 +2,16 @@
 -- Assumes nothing.
 use mathlib.Core.Path.{_≡_, refl, sym, _∙_}
 use mathlib.Core.List.{List, [], _∷_}
-use mathlib.Core.Bool.{Bool, true, false, cond, _&&_}
-use Prim.Native.Nat.{ℕ, zero, suc, _+_, _*_, _≤_, _<_}
+use mathlib.Core.Bool.{false, cond}
+use Prim.Native.Nat.{ℕ, zero, suc, _+_, _≤_, _<_}
 use native.Mathlib.Omega.{arith}
-use lib.ListN.{length, getD, set, length-set, replicate, length-replicate, getD-replicate, List·getD-eq-default}
+use lib.ListN.{length, getD, set, length-set, replicate, length-replicate}
 use lib.Seq.{getD-set-same, getD-set-other}
 use lib.Dec.{ltb, eqb}
-use borrow.Author.Tests.{lt-ltb, le-ltb, ltb-true, ltb-false, eqb-true, eqb-false, ne-eqb, eq-eqb}
+use borrow.Author.Tests.{ltb-true, ltb-false, eqb-true, eqb-false, ne-eqb, eq-eqb}
 use Rattle.instruction.specs.Bytes.{byte, lengthOf}
-use Rattle.program.specs.Starts.{startsFrom, starts, refusalAt, firstRefusal, excludes, among, allAmong}
-use Rattle.program.specs.Places.{opcodeBefore, excludesBefore, placeFrom, placeOf, entryAt, startHere, allPlaced, Places}
+use Rattle.program.specs.Starts.{startsFrom, starts, firstRefusal, excludes, among}
+use Rattle.program.specs.Places.{opcodeBefore, excludesBefore, placeFrom, placeOf, entryAt, Places}
 use Rattle.program.proofs.Tests.{bool-cases}
 use Rattle.program.proofs.Walks.{sound-next}
 

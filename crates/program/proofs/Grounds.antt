@@ -1,22 +1,21 @@
 -- The check's answer is the one that document 01's grounds allow (`ruled`), and they allow exactly one (`one-answer`).
 -- So a refusal's number is given on that number's ground, and on no other.
 -- Assumes nothing.
-use mathlib.Core.Path.{_≡_, refl, sym, _∙_}
+use mathlib.Core.Path.{_≡_, refl}
 use mathlib.Core.Logic.{_⊎_, inl, inr}
 use mathlib.Core.List.{List, [], _∷_}
-use mathlib.Core.Bool.{Bool, true, false, cond, not, _||_, or-true}
+use mathlib.Core.Bool.{Bool, true, false, _||_, or-true}
 use Prim.Native.Nat.{ℕ, _+_, _≤_, _<_}
 use native.Mathlib.Omega.{arith}
 use lib.ListN.{length}
 use lib.Dec.{ltb, eqb}
-use borrow.Author.Tests.{lt-ltb, ltb-true, ltb-false, eqb-true, eqb-false, eq-eqb, ne-eqb}
+use borrow.Author.Tests.{lt-ltb, ltb-true, ltb-false, eqb-true, eq-eqb, ne-eqb}
 use Rattle.instruction.specs.Bytes.{byte, cellsOf, lengthOf, instructionAt}
 use Rattle.instruction.specs.Table.{named, allBelow, tableFits}
 use Rattle.program.specs.Starts.{starts, refusalAt, firstRefusal, excludes, lastOpcode, jumpsAmong}
 use Rattle.program.specs.Check.{Answer, answerOf, closes, checkOf}
 use Rattle.program.specs.Grounds.{BadAt, unknown, cut, missing, table, FirstBad, here, later, Ground, size, command, many, last, jump, Ruled, passes, refuses}
-use Rattle.program.specs.declared.Checked.the-variants.{Program, Refused}
-use Rattle.program.proofs.Tests.{bool-cases, clash, or-cases, or-none}
+use Rattle.program.proofs.Tests.{bool-cases, clash, or-cases}
 
 -- of two numbers neither of which is below the other
 order : {C : Type 0} (m n : ℕ) → (m < n → C) → (n < m → C) → (m ≡ n → C) → C

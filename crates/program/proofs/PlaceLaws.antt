@@ -1,15 +1,15 @@
 -- What a byte of the table of places says of the program.
 -- Assumes nothing.
-use mathlib.Core.Path.{_≡_, refl, sym, ap, _∙_}
+use mathlib.Core.Path.{_≡_, refl}
 use mathlib.Core.List.{List, [], _∷_}
-use mathlib.Core.Bool.{Bool, true, false, cond, not, _&&_}
-use Prim.Native.Nat.{ℕ, _+_, _-_, _*_, _/_, _%_}
+use mathlib.Core.Bool.{Bool, true, false, cond}
+use Prim.Native.Nat.{ℕ, _+_, _-_, _*_, _%_}
 use native.Mathlib.Omega.{arith}
 use lib.Dec.{eqb}
-use borrow.Author.Tests.{eqb-true, eq-eqb, ne-eqb}
+use borrow.Author.Tests.{eq-eqb, ne-eqb}
 use Rattle.instruction.specs.Bytes.{byte}
-use Rattle.program.specs.Starts.{starts, among, allAmong}
-use Rattle.program.specs.Places.{opcodeBefore, isStart, afterCheckpoint, isExclude, excludeNumber, placeFrom, placeOf, entryAt, startHere, afterHere, excludeHere, readPlace, allPlaced, Places}
+use Rattle.program.specs.Starts.{starts, allAmong}
+use Rattle.program.specs.Places.{opcodeBefore, isStart, afterCheckpoint, isExclude, excludeNumber, placeOf, entryAt, startHere, afterHere, excludeHere, readPlace, allPlaced, Places}
 use Rattle.program.proofs.Tests.{bool-cases}
 
 -- of the byte of a start, by its three parts

@@ -2,15 +2,15 @@
 -- Assumes nothing.
 use mathlib.Core.Path.{_≡_, refl, sym, _∙_}
 use mathlib.Core.List.{List, [], _∷_}
-use mathlib.Core.Bool.{Bool, true, false, cond, not, _&&_}
-use Prim.Native.Nat.{ℕ, zero, suc, _+_, _≤_, _<_}
+use mathlib.Core.Bool.{Bool, true, false, cond, _&&_}
+use Prim.Native.Nat.{ℕ, _+_, _≤_, _<_}
 use native.Mathlib.Omega.{arith}
 use lib.ListN.{length}
 use lib.Dec.{ltb, eqb}
-use borrow.Author.Tests.{ltb-true, ltb-false, eqb-true, eqb-false, ne-eqb}
+use borrow.Author.Tests.{ltb-false, eqb-true, eqb-false, ne-eqb}
 use Rattle.instruction.specs.Bytes.{byte, lengthOf, instructionAt}
 use Rattle.instruction.specs.Table.{rowOf, targets}
-use Rattle.program.specs.Starts.{startsFrom, starts, refusalAt, firstRefusal, excludes, lastOpcode, among, allAmong, jumpsAmong}
+use Rattle.program.specs.Starts.{starts, refusalAt, firstRefusal, excludes, lastOpcode, allAmong, jumpsAmong}
 use Rattle.program.specs.Check.{walkOf}
 use Rattle.instruction.specs.declared.Instruction.{Instruction}
 use Rattle.instruction.specs.declared.Flow.{Flow}
@@ -55,7 +55,8 @@ walking-turn p at os r ex w =
     let c = w .count in
     rw ex (record { bad = rw r at (w .bad); count = omega arith; marks = omega arith; final = w .final })
 
-pub walking-bad : (p : List ℕ) (at : ℕ) {n e k no : ℕ} (os : List ℕ) → no ≡ refusalAt p at → (no ≡ 0 → ⊥) → Walking p n e k (at ∷ os) → Bad no ≡ walkOf p
+pub walking-bad : (p : List ℕ) (at : ℕ) {n e k no : ℕ} (os : List ℕ) → no ≡ refusalAt p at → (no ≡ 0 → ⊥)
+    → Walking p n e k (at ∷ os) → Bad no ≡ walkOf p
 unfolding firstRefusal
 walking-bad p at {n} {e} {k} {no} os er ne w =
     let q : eqb (refusalAt p at) 0 ≡ false = rw (← er) (ne-eqb _ _ ne) in
@@ -83,7 +84,8 @@ jump-at : (p : List ℕ) (at : ℕ) {i : Instruction} {f : Flow} {b : Bool} → 
 unfolding jumpsAmong
 jump-at p at ei ef eb os = rw (eb, ef, ei)
 
-module _ (p : List ℕ) (at : ℕ) {i : Instruction} {f : Flow} {b : Bool} (ei : i ≡ instructionAt p at) (ef : f ≡ rowOf i .flow) (eb : b ≡ allAmong (targets f) (starts p)) where
+module _ (p : List ℕ) (at : ℕ) {i : Instruction} {f : Flow} {b : Bool}
+    (ei : i ≡ instructionAt p at) (ef : f ≡ rowOf i .flow) (eb : b ≡ allAmong (targets f) (starts p)) where
   pub jumping-turn : b ≡ true → (os : List ℕ) → Jumping p (at ∷ os) → Jumping p os
   jumping-turn h os j = record { sound = sound-next p at os (j .sound) .1; same = j .same ∙ rw (jump-at p at ei ef eb os, h) }
 

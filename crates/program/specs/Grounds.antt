@@ -13,7 +13,8 @@ use Rattle.program.specs.Starts.{starts, excludes, lastOpcode, jumpsAmon
 use Rattle.program.specs.Check.{Answer, answerOf, closes, checkOf}
 use Rattle.program.specs.declared.Checked.{Checked}
 
--- 2 "unknown command byte", 3 "operands pass the end", 4 "a cell doesn't exist (base aside)", 5 "len 0, or table passes the last cell": of the instruction at o
+-- of the instruction at o: 2 "unknown command byte", 3 "operands pass the end", 4 "a cell doesn't exist (base aside)",
+-- 5 "len 0, or table passes the last cell"
 pub data BadAt (p : List ℕ) (o : ℕ) : ℕ → Type 0 where
   unknown : lengthOf (byte p o) ≡ 0 → BadAt p o 2
   cut : length p < o + lengthOf (byte p o) → BadAt p o 3
@@ -25,7 +26,8 @@ pub data FirstBad (p : List ℕ) (n : ℕ) : List ℕ → Type 0 where
   here : {o : ℕ} {os : List ℕ} → BadAt p o n → ((m : ℕ) → m < n → ¬ BadAt p o m) → FirstBad p n (o ∷ os)
   later : {o : ℕ} {os : List ℕ} → ((m : ℕ) → ¬ BadAt p o m) → FirstBad p n os → FirstBad p n (o ∷ os)
 
--- 1 "plan empty or over 2,048 bytes", 6 "over 512 commands or 64 EXCLUDEs", 7 "no command, or the last is neither END nor JUMP", 8 "t isn't a command's offset"
+-- 1 "plan empty or over 2,048 bytes", 6 "over 512 commands or 64 EXCLUDEs", 7 "no command, or the last is neither END nor JUMP",
+-- 8 "t isn't a command's offset"
 pub data Ground (p : List ℕ) : ℕ → Type 0 where
   size : (length p ≡ 0) ⊎ (2048 < length p) → Ground p 1
   command : {n : ℕ} → FirstBad p n (starts p) → Ground p n

@@ -1,4 +1,5 @@
--- What stands at an offset of a program: a start, the offset after a CHECKPOINT, an EXCLUDE and its number in order. And the table of it, a byte to an offset.
+-- What stands at an offset of a program: a start, the offset after a CHECKPOINT, an EXCLUDE and its number in order;
+-- and the table of it, a byte to an offset.
 -- Assumes nothing.
 use Prim.Native.Nat.{ℕ, _+_, _-_, _*_, _/_, _%_, _≤_}
 use mathlib.Core.Path.{_≡_}
@@ -35,7 +36,8 @@ isExclude p t = isStart p t && eqb (byte p t) 0x0D
 abbrev pub excludeNumber : List ℕ → ℕ → ℕ
 excludeNumber p t = excludesBefore p (starts p) t
 
--- the table's byte at a start: 1, 1 more after a CHECKPOINT, and for an EXCLUDE twice its number and 2; j is the opcode before it, k its own, n the EXCLUDEs before it
+-- the table's byte at a start: 1, 1 more after a CHECKPOINT, and for an EXCLUDE twice its number and 2; j is the opcode before it,
+-- k its own, n the number of EXCLUDEs before it
 abbrev pub placeFrom : (j k n : ℕ) → ℕ
 placeFrom j k n = 1 + cond (eqb j 0x0E) 1 0 + 2 * cond (eqb k 0x0D) (n + 1) 0
 

@@ -24,6 +24,6 @@ unfoldable pub loadOf : ℕ → List ℕ → ℕ → ℕ
 loadOf zero s at = 0
 loadOf (suc n) s at = getD s at 0 + 256 * loadOf n s (at + 1)
 
--- s with the n lowest bytes of v stored from offset `at` on
+-- s with the n lowest bytes of v stored from offset `at` on; what would lie past the end is dropped
 unfoldable pub storeOf : ℕ → List ℕ → ℕ → ℕ → List ℕ
 storeOf n s at v = sets s at (bytesOf n v)

@@ -1,4 +1,5 @@
--- The arithmetic of document 01's command table, over the integers ℤ. A cell holds a pattern of 32 bits, a number below 2 ^ 32; `val` is its signed value in two's complement.
+-- The arithmetic of document 01's command table, over the integers ℤ. A cell holds a pattern of 32 bits, a number below 2 ^ 32;
+-- `val` is its signed value in two's complement.
 -- Assumes nothing.
 use Prim.Native.Nat.{ℕ, suc, _-_, _%_, _^_}
 use mathlib.Core.Bool.{Bool}

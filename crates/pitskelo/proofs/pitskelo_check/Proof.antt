@@ -1,8 +1,6 @@
 -- `pitskelo_check` meets its contract: what it stores is the answer's, and a refusal stores nothing.
 -- Assumes nothing.
 use mathlib.Core.Path.{sym, _∙_}
-use Rattle.program.specs.Check.{answerOf}
-use Rattle.program.specs.Grounds.{Ruled}
 use Rattle.pitskelo.proofs.Answers.{accepted-call, refused-call}
 use borrow.Author.Needs.{needs}
 use Rattle.pitskelo.proofs.pitskelo_check.Statement.{statement}

@@ -1,7 +1,5 @@
 -- `program::check` meets its contract: the computed answer is the one that the grounds allow.
 -- Assumes nothing.
-use Rattle.program.specs.Check.{answerOf}
-use Rattle.program.specs.Grounds.{Ruled}
 use Rattle.program.proofs.Grounds.{ruled}
 use borrow.Author.Needs.{needs}
 use Rattle.program.proofs.check.Statement.{statement}
