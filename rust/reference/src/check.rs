@@ -54,7 +54,7 @@ pub fn check(plan: &[u8]) -> Result<Checked, u32> {
 }
 
 /// The commands of the plan with their offsets, or the first refusal of 2 to 5.
-fn instructions(plan: &[u8], cells: usize) -> Result<Vec<(usize, Instruction)>, u32> {
+pub(crate) fn instructions(plan: &[u8], cells: usize) -> Result<Vec<(usize, Instruction)>, u32> {
     let mut instructions = Vec::new();
     let mut offset = FIRST_INSTRUCTION;
     while offset < plan.len() {

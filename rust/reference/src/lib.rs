@@ -2,8 +2,12 @@
 //! verified library, so that an error would have to be made twice to go unseen. It is meant to be
 //! read beside the document: plain before fast.
 
+pub mod analysis;
 pub mod check;
+pub mod listing;
 pub mod program;
 pub mod refusal;
 
+pub use analysis::{analyse, Analysis, Set};
 pub use check::{check, Checked};
+pub use listing::listing;

@@ -56,6 +56,11 @@ impl Table {
     pub fn fits(self, cells: usize) -> bool {
         self.len > 0 && usize::from(self.base) + usize::from(self.len) <= cells
     }
+
+    pub fn contains(self, cell: u8) -> bool {
+        let first = usize::from(self.base);
+        (first..first + usize::from(self.len)).contains(&usize::from(cell))
+    }
 }
 
 /// An instruction (document 01: a command) with its operands, by the document's letters.
@@ -160,6 +165,51 @@ impl Instruction {
             Instruction::Jump { t } | Instruction::Less { t, .. } => Some(t),
             _ => None,
         }
+    }
+
+    /// Document 01's column "may read".
+    pub fn may_read(self, cell: u8) -> bool {
+        match self {
+            Instruction::Copy { a, .. } | Instruction::Emit { a } => cell == a,
+            Instruction::Add { a, b, .. }
+            | Instruction::Sub { a, b, .. }
+            | Instruction::Div { a, b, .. }
+            | Instruction::Less { a, b, .. } => cell == a || cell == b,
+            Instruction::Get { table, i, .. } => cell == i || table.contains(cell),
+            Instruction::Put { i, a, .. } => cell == i || cell == a,
+            Instruction::End
+            | Instruction::Set { .. }
+            | Instruction::Read { .. }
+            | Instruction::Jump { .. }
+            | Instruction::Exclude
+            | Instruction::Checkpoint => false,
+        }
+    }
+
+    /// Document 01's column "may write".
+    pub fn may_write(self, cell: u8) -> bool {
+        match self {
+            Instruction::Set { d, .. }
+            | Instruction::Copy { d, .. }
+            | Instruction::Add { d, .. }
+            | Instruction::Sub { d, .. }
+            | Instruction::Div { d, .. }
+            | Instruction::Read { d }
+            | Instruction::Get { d, .. } => cell == d,
+            Instruction::Put { table, .. } => table.contains(cell),
+            Instruction::End
+            | Instruction::Emit { .. }
+            | Instruction::Jump { .. }
+            | Instruction::Less { .. }
+            | Instruction::Exclude
+            | Instruction::Checkpoint => false,
+        }
+    }
+
+    /// "What a command may write it must write, except that PUT must write nothing." So DIV and READ
+    /// must write d although they may stop instead.
+    pub fn must_write(self, cell: u8) -> bool {
+        !matches!(self, Instruction::Put { .. }) && self.may_write(cell)
     }
 }
 
@@ -309,6 +359,48 @@ mod tests {
                 (vec![], None, None),
             ]
         );
+    }
+
+    #[test]
+    fn what_each_command_may_read_may_write_and_must_write() {
+        let those = |is: &dyn Fn(u8) -> bool| (0..=u8::MAX).filter(|&c| is(c)).collect::<Vec<u8>>();
+        let accesses: Vec<_> = one_of_each()
+            .iter()
+            .map(|(_, instruction)| {
+                (
+                    those(&|cell| instruction.may_read(cell)),
+                    those(&|cell| instruction.may_write(cell)),
+                    those(&|cell| instruction.must_write(cell)),
+                )
+            })
+            .collect();
+        let table: Vec<u8> = (20..50).collect();
+        let index_and_table = [vec![13], table.clone()].concat();
+        assert_eq!(
+            accesses,
+            [
+                (vec![], vec![], vec![]),              // END
+                (vec![], vec![10], vec![10]),          // SET d v
+                (vec![11], vec![10], vec![10]),        // COPY d a
+                (vec![11, 12], vec![10], vec![10]),    // ADD d a b
+                (vec![11, 12], vec![10], vec![10]),    // SUB d a b
+                (vec![11, 12], vec![10], vec![10]),    // DIV d a b
+                (vec![], vec![10], vec![10]),          // READ d
+                (vec![11], vec![], vec![]),            // EMIT a
+                (vec![], vec![], vec![]),              // JUMP t
+                (vec![11, 12], vec![], vec![]),        // LESS a b t
+                (index_and_table, vec![10], vec![10]), // GET d base len i
+                (vec![11, 13], table, vec![]),         // PUT base len i a
+                (vec![], vec![], vec![]),              // EXCLUDE
+                (vec![], vec![], vec![]),              // CHECKPOINT
+            ]
+        );
+    }
+
+    #[test]
+    fn a_table_may_end_with_the_last_cell() {
+        let table = Table { base: 1, len: 255 };
+        assert!(!table.contains(0) && table.contains(1) && table.contains(255));
     }
 
     #[test]

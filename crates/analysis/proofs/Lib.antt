@@ -1,0 +1,3 @@
+pub mod Certificates
+pub mod Laws
+pub mod Examples

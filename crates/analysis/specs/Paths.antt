@@ -1,0 +1,37 @@
+-- Live cells, regions, DE and RO by paths through a program: document 01, "The sets".
+-- Assumes nothing.
+use Prim.Native.Nat.{ℕ, _<_}
+use mathlib.Core.Path.{_≡_}
+use mathlib.Core.Bool.{true}
+use mathlib.Core.List.{List}
+use Rattle.instruction.specs.Bytes.{byte, cellsOf, instructionAt}
+use Rattle.instruction.specs.Table.{mayRef, mayDef, mustDef, successors}
+use Rattle.program.specs.Starts.{among}
+
+-- the instruction at q may follow the one at o
+abbrev pub Follows : List ℕ → ℕ → ℕ → Type 0
+Follows p o q = among q (successors p o) ≡ true
+
+-- "A cell is live before a command if some path from it reaches a command that may read the cell, and no earlier command on the path must
+-- write it"; "The reading command reads before it writes"
+pub data Live (p : List ℕ) (c : ℕ) : ℕ → Type 0 where
+  reads : {o : ℕ} → mayRef (instructionAt p o) c ≡ 1 → Live p c o
+  later : {o q : ℕ} → mustDef (instructionAt p o) c ≡ 0 → Follows p o q → Live p c q → Live p c o
+
+-- "The region of an EXCLUDE is its successor and all commands reachable from that without passing an EXCLUDE": e is the EXCLUDE's offset
+pub data Region (p : List ℕ) (e : ℕ) : ℕ → Type 0 where
+  first : {q : ℕ} → Follows p e q → Region p e q
+  onward : {o q : ℕ} → Region p e o → ¬ (byte p o ≡ 0x0D) → Follows p o q → Region p e q
+
+-- "DE: the cells dead at every CHECKPOINT of the region; empty if it has none"
+pub record DE (p : List ℕ) (e c : ℕ) : Type 0 where
+  pub exists : c < cellsOf p
+  pub place : ℕ
+  pub within : Region p e place
+  pub saves : byte p place ≡ 0x0E
+  pub dead : (o : ℕ) → Region p e o → byte p o ≡ 0x0E → ¬ Live p c o
+
+-- "RO: the cells that no command of the region may write"
+pub record RO (p : List ℕ) (e c : ℕ) : Type 0 where
+  pub exists : c < cellsOf p
+  pub kept : (o : ℕ) → Region p e o → mayDef (instructionAt p o) c ≡ 0
