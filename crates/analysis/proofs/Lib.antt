@@ -1,3 +1,15 @@
-pub mod Certificates
+-- `Laws`, `Safety` and `Fixed` are what the crates above cite; `Certificates`, `Rounds` and `Table` decide the definitions on given programs, document 01's rows
+-- among them; the others serve the proofs of this crate alone.
+-- Assumes nothing.
 pub mod Laws
-pub mod Examples
+pub mod Safety
+pub mod Fixed
+pub mod Certificates
+pub mod Rounds
+pub mod Table
+pub mod Gathering
+pub mod Bridging
+pub mod Searching
+pub mod Looping
+pub mod Placing
+pub mod Answering

@@ -1,1 +1,3 @@
 pub mod Paths
+pub mod Analyse
+pub mod Search

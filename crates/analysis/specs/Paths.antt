@@ -18,6 +18,11 @@ pub data Live (p : List ℕ) (c : ℕ) : ℕ → Type 0 where
   reads : {o : ℕ} → mayRef (instructionAt p o) c ≡ 1 → Live p c o
   later : {o q : ℕ} → mustDef (instructionAt p o) c ≡ 0 → Follows p o q → Live p c q → Live p c o
 
+-- "otherwise dead": of the cells that exist
+pub record Dead (p : List ℕ) (c o : ℕ) : Type 0 where
+  pub exists : c < cellsOf p
+  pub unread : ¬ Live p c o
+
 -- "The region of an EXCLUDE is its successor and all commands reachable from that without passing an EXCLUDE": e is the EXCLUDE's offset
 pub data Region (p : List ℕ) (e : ℕ) : ℕ → Type 0 where
   first : {q : ℕ} → Follows p e q → Region p e q
@@ -35,3 +40,14 @@ pub record DE (p : List ℕ) (e c : ℕ) : Type 0 where
 pub record RO (p : List ℕ) (e c : ℕ) : Type 0 where
   pub exists : c < cellsOf p
   pub kept : (o : ℕ) → Region p e o → mayDef (instructionAt p o) c ≡ 0
+
+-- what keeps a cell that exists out of DE: the region has no CHECKPOINT, or the cell is live at one
+pub data LiveSave (p : List ℕ) (e c : ℕ) : Type 0 where
+  unsaved : ((o : ℕ) → Region p e o → ¬ (byte p o ≡ 0x0E)) → LiveSave p e c
+  live-at : (o : ℕ) → Region p e o → byte p o ≡ 0x0E → Live p c o → LiveSave p e c
+
+-- what keeps it out of RO: an instruction of the region may write it
+pub record Written (p : List ℕ) (e c : ℕ) : Type 0 where
+  pub place : ℕ
+  pub within : Region p e place
+  pub writes : mayDef (instructionAt p place) c ≡ 1

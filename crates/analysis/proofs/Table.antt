@@ -1,0 +1,192 @@
+-- Document 01's rows about the sets as one table, marked (M) or said in its text: a row is a program, a question and the cells that answer it. One test of the table,
+-- computed, shows that every row holds.
+-- Assumes nothing.
+use mathlib.Core.Path.{_≡_, refl}
+use mathlib.Core.List.{List, [], _∷_}
+use mathlib.Core.Bool.{Bool, true, false, cond, not, _&&_, _||_}
+use Prim.Native.Nat.{ℕ, zero, suc, _<_}
+use native.Mathlib.Omega.{arith}
+use lib.Dec.{ltb, eqb}
+use borrow.Author.Tests.{ltb-true, eqb-true, eqb-false, not-true}
+use Rattle.word.specs.Bytes.{numberOf}
+use Rattle.instruction.specs.Bytes.{byte, cellsOf, lengthOf, instructionAt}
+use Rattle.instruction.specs.Table.{access, mayDef, successors}
+use Rattle.program.specs.Starts.{startsFrom, starts, refusalAt, firstRefusal, excludes, lastOpcode, among, jumpsAmong}
+use Rattle.program.specs.Places.{isStart}
+use Rattle.program.specs.Check.{checkOf}
+use Rattle.program.specs.declared.Checked.{Checked}
+use Rattle.program.specs.declared.Checked.the-variants.{Program, Refused}
+use Rattle.program.proofs.Tests.{bool-cases, clash, and-both, or-cases}
+use Rattle.program.proofs.Accepted.{Accepted, accepted}
+use Rattle.program.proofs.Examples.{small}
+use Rattle.graph.specs.Tables.{Passed}
+use Rattle.analysis.specs.Paths.{Dead, DE, RO}
+use Rattle.analysis.proofs.Certificates.{allOf, all-at, closedLive, dead-at, closedRegion, de-by, no-save, ro-by, not-de, not-ro}
+use Rattle.analysis.proofs.Rounds.{someOf, some-at, liveOf, live-found, regionOf, region-found}
+
+-- ---- rows
+
+-- the cells that are dead before offset o, and DE and RO of the EXCLUDE at e
+pub data Question : Type 0 where
+  deadBefore : (o : ℕ) → Question
+  deOf : (e : ℕ) → Question
+  roOf : (e : ℕ) → Question
+
+pub record Row : Type 0 where
+  pub program : List ℕ
+  pub asks : Question
+  pub cells : List ℕ
+
+-- cell c is in the set that is asked for
+abbrev pub In : List ℕ → Question → ℕ → Type 0
+In p (deadBefore o) c = Dead p c o
+In p (deOf e) c = DE p e c
+In p (roOf e) c = RO p e c
+
+-- the row's cells are those of the set, and no others
+abbrev pub Holds : Row → Type 0
+Holds r = (c : ℕ) → (among c (r .cells) ≡ true → In (r .program) (r .asks) c) × (among c (r .cells) ≡ false → ¬ In (r .program) (r .asks) c)
+
+in-exists : (p : List ℕ) (q : Question) (c : ℕ) → In p q c → c < cellsOf p
+in-exists p (deadBefore o) c h = h .exists
+in-exists p (deOf e) c h = h .exists
+in-exists p (roOf e) c h = h .exists
+
+-- ---- the test of a row
+
+-- a CHECKPOINT stands at o; one before which the cell is live; if one does, the cell is dead before it
+abbrev saves : List ℕ → ℕ → Bool
+saves p o = eqb (byte p o) 0x0E
+
+abbrev liveSave : List ℕ → ℕ → ℕ → Bool
+liveSave p c o = saves p o && among o (liveOf p c)
+
+abbrev deadSave : List ℕ → ℕ → ℕ → Bool
+deadSave p c o = not (saves p o) || (isStart p o && not (among o (liveOf p c)))
+
+-- the instruction at o may write the cell, v being 1, or may not, v being 0
+abbrev defines : List ℕ → ℕ → ℕ → ℕ → Bool
+defines p c v o = eqb (mayDef (instructionAt p o) c) v
+
+-- what shows that a cell is in the set
+abbrev shownIn : List ℕ → Question → ℕ → Bool
+shownIn p (deadBefore o) c = (isStart p o && closedLive p c (liveOf p c)) && not (among o (liveOf p c))
+shownIn p (deOf e) c =
+    (closedRegion p e (regionOf p e) && closedLive p c (liveOf p c)) && (someOf (saves p) (regionOf p e) && allOf (deadSave p c) (regionOf p e))
+shownIn p (roOf e) c = closedRegion p e (regionOf p e) && allOf (defines p c 0) (regionOf p e)
+
+shown-in : (p : List ℕ) {m n k : ℕ} → Accepted p m n k → (q : Question) (c : ℕ) → c < cellsOf p → shownIn p q c ≡ true → In p q c
+shown-in p a (deadBefore o) c l h =
+    let x = and-both _ _ h in
+    let y = and-both _ _ (x .0) in
+    record { exists = l; unread = dead-at p a c (liveOf p c) (y .1) o (y .0) (not-true _ (x .1)) }
+shown-in p a (deOf e) c l h =
+    let x = and-both _ _ h in
+    let y = and-both _ _ (x .0) in
+    let z = and-both _ _ (x .1) in
+    let s = some-at (saves p) (regionOf p e) (z .0) in
+    de-by p e (regionOf p e) (y .0) c a (liveOf p c) (y .1) (z .1) l (s .0) (region-found p e (s .0) (s .1)) (eqb-true _ _ (s .2))
+shown-in p a (roOf e) c l h = let x = and-both _ _ h in ro-by p e (regionOf p e) (x .0) c (x .1) l
+
+-- and what shows that it is not
+abbrev shownOut : List ℕ → Question → ℕ → Bool
+shownOut p (deadBefore o) c = among o (liveOf p c)
+shownOut p (deOf e) c = someOf (liveSave p c) (regionOf p e) || (closedRegion p e (regionOf p e) && allOf (λ o. not (saves p o)) (regionOf p e))
+shownOut p (roOf e) c = someOf (defines p c 1) (regionOf p e)
+
+shown-out : (p : List ℕ) (q : Question) (c : ℕ) → shownOut p q c ≡ true → In p q c → ⊥
+shown-out p (deadBefore o) c h d = d .unread (live-found p c o h)
+shown-out p (deOf e) c h d =
+    or-cases _ _ h
+    (λ t.
+    let s = some-at (liveSave p c) (regionOf p e) t in
+    let x = and-both _ _ (s .2) in
+    not-de p e c (s .0) (region-found p e (s .0) (s .1)) (eqb-true _ _ (x .0)) (live-found p c (s .0) (x .1)) d)
+    (λ _ t. let x = and-both _ _ t in no-save p e (regionOf p e) (x .0) c (x .1) d)
+shown-out p (roOf e) c h d =
+    let s = some-at (defines p c 1) (regionOf p e) h in
+    not-ro p e c (s .0) (region-found p e (s .0) (s .1)) (eqb-true _ _ (s .2)) d
+
+-- check passes the program
+abbrev passes : Checked → Bool
+passes (Program cells instructions marks) = true
+passes (Refused n) = false
+
+passed : (p : List ℕ) (k : Checked) → k ≡ checkOf p → passes k ≡ true → Passed p
+passed p (Program cells instructions marks) e h = record { cells = cells; instructions = instructions; marks = marks; is = e }
+passed p (Refused n) e h = clash false h refl
+
+-- each number below n passes it
+abbrev eachBelow : (ℕ → Bool) → ℕ → Bool
+eachBelow f zero = true
+eachBelow f (suc n) = f n && eachBelow f n
+
+below-at : (f : ℕ → Bool) (n c : ℕ) → eachBelow f n ≡ true → c < n → f c ≡ true
+below-at f zero c h l = absurd (omega arith)
+below-at f (suc n) c h l =
+    let b = and-both (f n) (eachBelow f n) h in
+    bool-cases (eqb c n)
+    (λ t. let d : c ≡ n = eqb-true _ _ t in rw d (b .0))
+    (λ t. let d : c ≡ n → ⊥ = eqb-false _ _ t in below-at f n c (b .1) (omega arith))
+
+-- each cell of the program is shown to be in the set or not, as the row says, and the row has no others
+abbrev shown : Row → ℕ → Bool
+shown r c = cond (among c (r .cells)) (shownIn (r .program) (r .asks) c) (shownOut (r .program) (r .asks) c)
+
+abbrev pub rowRight : Row → Bool
+rowRight r =
+    (passes (checkOf (r .program)) && allOf (λ c. ltb c (cellsOf (r .program))) (r .cells)) && eachBelow (shown r) (cellsOf (r .program))
+
+pub row-holds : (r : Row) → rowRight r ≡ true → Holds r
+row-holds r h c =
+    let p = r .program in
+    let x = and-both _ _ h in
+    let y = and-both _ _ (x .0) in
+    let a = accepted p (passed p (checkOf p) refl (y .0) .is) in
+    let at : c < cellsOf p → shown r c ≡ true = below-at (shown r) (cellsOf p) c (x .1) in (
+      (λ t.
+          let l : c < cellsOf p = ltb-true _ _ (all-at (λ x. ltb x (cellsOf p)) (r .cells) c (y .1) t) in
+          shown-in p a (r .asks) c l (rw t at (at l))),
+      (λ t d. shown-out p (r .asks) c (rw t at (at (in-exists p (r .asks) c d))) d),
+    )
+
+abbrev pub right : List Row → Bool
+right [] = true
+right (r ∷ rs) = rowRight r && right rs
+
+-- every row holds
+abbrev pub Hold : List Row → Type 0
+Hold [] = Unit
+Hold (r ∷ rs) = Holds r × Hold rs
+
+pub all-hold : (rs : List Row) → right rs ≡ true → Hold rs
+all-hold [] h = tt
+all-hold (r ∷ rs) h = let x = and-both (rowRight r) (right rs) h in (row-holds r (x .0), all-hold rs (x .1))
+
+-- ---- the table
+
+abbrev row : List ℕ → Question → List ℕ → Row
+row p q cs = record { program = p; asks = q; cells = cs }
+
+abbrev pub rows : List Row
+rows =
+    -- (M) "15 dead 1 2 fixed 2 saved 0"
+    row small (deOf 15) (1 ∷ 2 ∷ [])
+    ∷ row small (roOf 15) (2 ∷ [])
+    -- (M) "dead before offset 9: cell 2 only"
+    ∷ row small (deadBefore 9) (2 ∷ [])
+    -- (M) "`00 0D 01`: DE empty, RO cell 0"
+    ∷ row (0x00 ∷ 0x0D ∷ 0x01 ∷ []) (deOf 1) []
+    ∷ row (0x00 ∷ 0x0D ∷ 0x01 ∷ []) (roOf 1) (0 ∷ [])
+    -- "ADD 0 0 1 keeps cell 0 live"; "Everything is dead at END"
+    ∷ row (0x01 ∷ 0x04 ∷ 0 ∷ 0 ∷ 1 ∷ 0x01 ∷ []) (deadBefore 1) []
+    ∷ row (0x01 ∷ 0x04 ∷ 0 ∷ 0 ∷ 1 ∷ 0x01 ∷ []) (deadBefore 5) (0 ∷ 1 ∷ [])
+    -- "PUT must write nothing": cell 0 of its table is live before it, since EMIT reads it
+    ∷ row (0x02 ∷ 0x0C ∷ 0 ∷ 2 ∷ 2 ∷ 2 ∷ 0x08 ∷ 0 ∷ 0x01 ∷ []) (deadBefore 1) (1 ∷ [])
+    -- "RO: the cells that no command of the region may write": cell 0 is read there, and cell 1 is written
+    ∷ row (0x02 ∷ 0x0D ∷ 0x03 ∷ 1 ∷ 0 ∷ 0x01 ∷ []) (roOf 1) (0 ∷ 2 ∷ [])
+    ∷ []
+
+pub rows-hold : Hold rows
+unfolding checkOf lengthOf instructionAt numberOf access successors startsFrom starts refusalAt firstRefusal excludes lastOpcode among jumpsAmong
+rows-hold = all-hold rows refl
