@@ -1,0 +1,9 @@
+pub mod Examples
+pub mod Writing
+pub mod Decimals
+pub mod Cells
+pub mod Short
+pub mod Heads
+pub mod Lines
+pub mod Going
+pub mod Whole
