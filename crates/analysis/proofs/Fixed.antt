@@ -82,12 +82,12 @@ dead-fixed {p} {d₀} {d} {d′} x y fits fits′ =
 -- ---- DE and RO
 
 -- a cell is not both in DE and kept out of it
-de-apart : {p : List ℕ} {e c : ℕ} → DE p e c → ¬ LiveSave p e c
+pub de-apart : {p : List ℕ} {e c : ℕ} → DE p e c → ¬ LiveSave p e c
 de-apart d (unsaved n) = n (d .place) (d .within) (d .saves)
 de-apart d (live-at o r s l) = d .dead o r s l
 
 -- nor both in RO and written
-ro-apart : {p : List ℕ} {e c : ℕ} → RO p e c → ¬ Written p e c
+pub ro-apart : {p : List ℕ} {e c : ℕ} → RO p e c → ¬ Written p e c
 ro-apart {p} {e} {c} r w = not-ro p e c (w .place) (w .within) (w .writes) r
 
 -- a cell that does not exist has no bit in either

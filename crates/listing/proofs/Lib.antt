@@ -7,3 +7,4 @@ pub mod Heads
 pub mod Lines
 pub mod Going
 pub mod Whole
+pub mod Fixed

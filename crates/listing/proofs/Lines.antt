@@ -43,7 +43,7 @@ numbers-same f g (suc n) e = rw (e n (omega arith), numbers-same f g n (λ c l. 
 
 -- `put_exclude`: the line is that of the three sets
 module _ {s : List ℕ} {number n : ℕ} {x y z : ℕ → ℕ} (a : Agree s number x y z n) (offset : ℕ) where
-  line-same : lineAt s number offset n ≡ lineFrom offset x y z n
+  pub line-same : lineAt s number offset n ≡ lineFrom offset x y z n
   unfolding setOf lineFrom lineAt
   line-same = rw (← numbers-same x _ n (a .in-de), ← numbers-same y _ n (a .in-ro), ← numbers-same z _ n (a .in-neither))
 
