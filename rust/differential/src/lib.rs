@@ -1,10 +1,12 @@
-//! What the differential tests share: the verified library's C interface as safe functions, and
-//! random plans.
+//! What the differential tests share: the verified library's C interface as safe functions, random
+//! plans, and the plans in `examples/`.
 
+pub mod examples;
+pub mod features;
 pub mod plans;
 pub mod rng;
 
-use std::ptr::null;
+use std::ptr::{null, null_mut};
 
 // As in include/pitskelo.h.
 extern "C" {
@@ -14,6 +16,15 @@ extern "C" {
         cells: *mut u32,
         commands: *mut u32,
         excludes: *mut u32,
+    ) -> u32;
+
+    fn pitskelo_analyse(
+        plan: *const u8,
+        plan_len: usize,
+        dead: *mut u8,
+        dead_len: usize,
+        sets: *mut u8,
+        sets_len: usize,
     ) -> u32;
 }
 
@@ -39,4 +50,19 @@ unsafe fn call_check(plan: *const u8, plan_len: usize, before: [u32; 3]) -> Answ
     let [mut cells, mut commands, mut excludes] = before;
     let result = pitskelo_check(plan, plan_len, &mut cells, &mut commands, &mut excludes);
     (result, [cells, commands, excludes])
+}
+
+/// Calls the library's analyse, which fills the two buffers, and gives its result.
+pub fn analyse(plan: &[u8], dead: &mut [u8], sets: &mut [u8]) -> u32 {
+    analyse_null(Some(plan), Some(dead), Some(sets))
+}
+
+/// As `analyse`, where each slice that is not given is lent as a null pointer.
+pub fn analyse_null(plan: Option<&[u8]>, dead: Option<&mut [u8]>, sets: Option<&mut [u8]>) -> u32 {
+    let (plan, plan_len) = plan.map_or((null(), 0), |plan| (plan.as_ptr(), plan.len()));
+    let (dead, dead_len) = dead.map_or((null_mut(), 0), |dead| (dead.as_mut_ptr(), dead.len()));
+    let (sets, sets_len) = sets.map_or((null_mut(), 0), |sets| (sets.as_mut_ptr(), sets.len()));
+    // SAFETY: a slice's pointer and length go together, and the interface takes a null pointer with
+    // length 0 for an empty slice. A slice lent by `&mut` overlaps no other.
+    unsafe { pitskelo_analyse(plan, plan_len, dead, dead_len, sets, sets_len) }
 }

@@ -1,29 +1,100 @@
-//! Random plans. Those made as a `Draft` break no rule but perhaps the limits on size, so a test
-//! knows their answer without asking any check.
+//! Plans made of given commands, and random plans. Those made as a `Draft` break no rule but perhaps
+//! the limits on size, so a test knows their answer without asking any check.
 
 use crate::rng::Rng;
 use reference::program::{
     ADD, CHECKPOINT, COPY, DIV, EMIT, END, EXCLUDE, GET, JUMP, LESS, PUT, READ, SET, SUB,
 };
 
+/// Every command, with operands that suit any plan: cell 0, the table of cell 0 alone, the target
+/// 1. Beside it the places of the cells among its bytes.
+pub const COMMANDS: [(&[u8], &[usize]); 14] = [
+    (&[0x01], &[]),
+    (&[0x02, 0, 0x78, 0x56, 0x34, 0x92], &[1]),
+    (&[0x03, 0, 0], &[1, 2]),
+    (&[0x04, 0, 0, 0], &[1, 2, 3]),
+    (&[0x05, 0, 0, 0], &[1, 2, 3]),
+    (&[0x06, 0, 0, 0], &[1, 2, 3]),
+    (&[0x07, 0], &[1]),
+    (&[0x08, 0], &[1]),
+    (&[0x09, 1, 0], &[]),
+    (&[0x0A, 0, 0, 1, 0], &[1, 2]),
+    (&[0x0B, 0, 0, 1, 0], &[1, 4]),
+    (&[0x0C, 0, 1, 0, 0], &[3, 4]),
+    (&[0x0D], &[]),
+    (&[0x0E], &[]),
+];
+
 const ALL: [u8; 14] = [
     END, SET, COPY, ADD, SUB, DIV, READ, EMIT, JUMP, LESS, GET, PUT, EXCLUDE, CHECKPOINT,
 ];
+
+/// The commands after which the next may come.
+const ONWARD: [u8; 12] = [
+    SET, COPY, ADD, SUB, DIV, READ, EMIT, LESS, GET, PUT, EXCLUDE, CHECKPOINT,
+];
+
+/// A plan of so many cells with these commands.
+pub fn plan(cells: usize, commands: &[&[u8]]) -> Vec<u8> {
+    let mut plan = vec![(cells - 1) as u8];
+    plan.extend(commands.concat());
+    plan
+}
+
+/// A plan of so many cells with these commands. Each is given without its t, but with the command,
+/// counted from 0, that it may jump to.
+pub fn linked(cells: usize, commands: &[(impl AsRef<[u8]>, Option<usize>)]) -> Vec<u8> {
+    let mut offsets = Vec::new();
+    let mut offset = 1;
+    for (bytes, target) in commands {
+        offsets.push(offset as u16);
+        offset += bytes.as_ref().len() + if target.is_some() { 2 } else { 0 };
+    }
+    let mut plan = vec![(cells - 1) as u8];
+    for (bytes, target) in commands {
+        plan.extend_from_slice(bytes.as_ref());
+        if let Some(command) = *target {
+            plan.extend_from_slice(&offsets[command].to_le_bytes());
+        }
+    }
+    plan
+}
 
 /// A plan in the making: its bytes, its commands' offsets, and where in the bytes each t stands.
 pub struct Draft {
     pub bytes: Vec<u8>,
     pub offsets: Vec<usize>,
     targets: Vec<usize>,
+    /// The cells that its commands name.
+    named: Vec<u8>,
+    /// The tables that its commands name, base and len. Where there is none, they name any.
+    tables: Vec<[u8; 2]>,
 }
 
 impl Draft {
+    /// A draft that names any cells and tables.
     fn new(cells: usize) -> Draft {
+        let last = (cells - 1) as u8;
         Draft {
-            bytes: vec![(cells - 1) as u8],
+            bytes: vec![last],
             offsets: Vec::new(),
             targets: Vec::new(),
+            named: (0..=last).collect(),
+            tables: Vec::new(),
         }
+    }
+
+    /// A draft that names few cells and tables, so that one command reads what another writes. The
+    /// tables begin with such cells.
+    fn woven(rng: &mut Rng, cells: usize) -> Draft {
+        let mut draft = Draft::new(cells);
+        draft.named = (0..1 + rng.below(6)).map(|_| edge(rng, cells)).collect();
+        for _ in 0..1 + rng.below(3) {
+            let base = rng.pick(&draft.named);
+            let longest = rng.pick(&[1, 4, 255]).min(cells - usize::from(base));
+            draft.tables.push([base, 1 + rng.below(longest) as u8]);
+        }
+        draft
     }
 
     pub fn excludes(&self) -> usize {
@@ -68,15 +139,17 @@ impl Draft {
 
     fn push_cells(&mut self, rng: &mut Rng, count: usize) {
         for _ in 0..count {
-            let cell = rng.below(self.cells());
-            self.bytes.push(cell as u8);
+            let cell = rng.pick(&self.named);
+            self.bytes.push(cell);
         }
     }
 
     fn push_table(&mut self, rng: &mut Rng) {
-        let len = 1 + rng.below(self.cells().min(255));
-        let base = rng.below(self.cells() - len + 1);
-        self.bytes.extend_from_slice(&[base as u8, len as u8]);
+        let table = match &self.tables[..] {
+            [] => any_table(rng, self.cells()),
+            tables => rng.pick(tables),
+        };
+        self.bytes.extend_from_slice(&table);
     }
 
     fn push_target(&mut self) {
@@ -98,12 +171,49 @@ impl Draft {
     }
 }
 
+fn any_table(rng: &mut Rng, cells: usize) -> [u8; 2] {
+    let len = 1 + rng.below(cells.min(255));
+    let base = rng.below(cells - len + 1);
+    [base as u8, len as u8]
+}
+
+/// A cell, every other time the first or last of a word of the sets, or the last cell.
+fn edge(rng: &mut Rng, cells: usize) -> u8 {
+    let cell = match rng.below(2) {
+        0 => rng.pick(&[0, 63, 64, 127, 128, 191, 192, 255]),
+        _ => rng.below(cells),
+    };
+    cell.min(cells - 1) as u8
+}
+
 fn random_cells(rng: &mut Rng) -> usize {
     match rng.below(4) {
         0 => 256,
         1 => 1 + rng.below(256),
         _ => 1 + rng.below(4),
     }
+}
+
+/// Up to 8 cells, with which the reference is done soon. Once in `seldom` times up to 256, and then
+/// every other time about as many as fill words of the sets.
+fn few_cells(rng: &mut Rng, seldom: usize) -> usize {
+    if rng.below(seldom) > 0 {
+        return 1 + rng.below(8);
+    }
+    match rng.below(2) {
+        0 => rng.pick(&[63, 64, 65, 127, 128, 129, 191, 192, 193, 255, 256]),
+        _ => 1 + rng.below(256),
+    }
+}
+
+/// Some commands to draw from: not each of them, and some more often than others. Every other time
+/// those are among them that make regions.
+fn some_commands(rng: &mut Rng, of: &[u8]) -> Vec<u8> {
+    let mut some: Vec<u8> = (0..3 + rng.below(10)).map(|_| rng.pick(of)).collect();
+    if rng.below(2) == 0 {
+        some.extend([LESS, EXCLUDE, CHECKPOINT, CHECKPOINT]);
+    }
+    some
 }
 
 /// An accepted plan of up to 24 commands.
@@ -142,6 +252,70 @@ pub fn long(rng: &mut Rng) -> Draft {
     while draft.bytes.len() < bytes {
         draft.push(rng, END);
     }
+    draft.finish(rng)
+}
+
+/// An accepted plan of up to 24 commands, woven.
+pub fn woven(rng: &mut Rng) -> Draft {
+    let cells = few_cells(rng, 4);
+    let mut draft = Draft::woven(rng, cells);
+    let commands = some_commands(rng, &ALL);
+    for _ in 0..rng.below(24) {
+        let command = rng.pick(&commands);
+        draft.push(rng, command);
+    }
+    let last = rng.pick(&[END, JUMP]);
+    draft.push(rng, last);
+    draft.finish(rng)
+}
+
+/// An accepted plan of 2 to 12 blocks in reverse order, woven. The first command jumps to the last
+/// block, and each block to the one before it; the first ends or jumps anywhere.
+pub fn reversed(rng: &mut Rng) -> Draft {
+    let cells = few_cells(rng, 4);
+    let mut draft = Draft::woven(rng, cells);
+    let commands = some_commands(rng, &ONWARD);
+    draft.push(rng, JUMP);
+    let entry = draft.bytes.len() - 2;
+    let mut blocks = Vec::new();
+    for _ in 0..2 + rng.below(11) {
+        let begin = draft.bytes.len();
+        for _ in 0..rng.below(4) {
+            let command = rng.pick(&commands);
+            draft.push(rng, command);
+        }
+        let last = match blocks.len() {
+            0 => rng.pick(&[END, JUMP]),
+            _ => JUMP,
+        };
+        draft.push(rng, last);
+        blocks.push(begin..draft.bytes.len());
+    }
+    let mut draft = draft.finish(rng);
+    for (before, block) in blocks.iter().zip(&blocks[1..]) {
+        draft.set_target(block.end - 2, before.start);
+    }
+    draft.set_target(entry, blocks[blocks.len() - 1].start);
+    draft
+}
+
+/// An accepted plan of 300 to 512 commands, or of fewer in almost 2,048 bytes, woven.
+pub fn large(rng: &mut Rng) -> Draft {
+    let cells = few_cells(rng, 16);
+    let mut draft = Draft::woven(rng, cells);
+    let commands = some_commands(rng, &ONWARD);
+    for _ in 0..299 + rng.below(213) {
+        // No command is longer than 6 bytes, and END follows.
+        if draft.bytes.len() + 6 + 1 > 2_048 {
+            break;
+        }
+        let command = match rng.pick(&commands) {
+            EXCLUDE if draft.excludes() == 64 => CHECKPOINT,
+            command => command,
+        };
+        draft.push(rng, command);
+    }
+    draft.push(rng, END);
     draft.finish(rng)
 }
 

@@ -1,7 +1,7 @@
 //! Holds the library's check to the reference: on the result, and on the three numbers as they
 //! stand after the call. Where document 01 says the answer outright, it is stated here as well.
 
-use differential::plans::{self, Draft};
+use differential::plans::{self, plan, Draft, COMMANDS};
 use differential::rng::Rng;
 use differential::Answer;
 
@@ -14,25 +14,6 @@ const SMALL_PLAN: [u8; 20] = [
     0x0E, 0x09, 0x07, 0x00,
 ];
 
-/// Every command, with operands that suit any plan: cell 0, the table of cell 0 alone, the target
-/// 1. Beside it the places of the cells among its bytes.
-const COMMANDS: [(&[u8], &[usize]); 14] = [
-    (&[0x01], &[]),
-    (&[0x02, 0, 0x78, 0x56, 0x34, 0x92], &[1]),
-    (&[0x03, 0, 0], &[1, 2]),
-    (&[0x04, 0, 0, 0], &[1, 2, 3]),
-    (&[0x05, 0, 0, 0], &[1, 2, 3]),
-    (&[0x06, 0, 0, 0], &[1, 2, 3]),
-    (&[0x07, 0], &[1]),
-    (&[0x08, 0], &[1]),
-    (&[0x09, 1, 0], &[]),
-    (&[0x0A, 0, 0, 1, 0], &[1, 2]),
-    (&[0x0B, 0, 0, 1, 0], &[1, 4]),
-    (&[0x0C, 0, 1, 0, 0], &[3, 4]),
-    (&[0x0D], &[]),
-    (&[0x0E], &[]),
-];
-
 const END: &[u8] = &[0x01];
 
 // Faults, in a plan of one cell.
@@ -41,13 +22,6 @@ const CUT: &[u8] = &[0x08];
 const NO_SUCH_CELL: &[u8] = &[0x08, 0x01];
 const BAD_TABLE: &[u8] = &[0x0B, 0x00, 0x00, 0x02, 0x00];
 const BAD_TARGET: &[u8] = &[0x09, 0x00, 0x00];
-
-/// A plan of so many cells with these commands.
-fn plan(cells: usize, commands: &[&[u8]]) -> Vec<u8> {
-    let mut plan = vec![(cells - 1) as u8];
-    plan.extend(commands.concat());
-    plan
-}
 
 /// Asserts that library and reference agree on the plan, and gives the answer.
 #[track_caller]

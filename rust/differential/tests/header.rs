@@ -21,7 +21,7 @@ fn must_succeed(what: &str, output: &Output) {
 }
 
 #[test]
-fn a_c_program_checks_the_small_plan() {
+fn a_c_program_checks_and_analyses_the_small_plan() {
     let root = Path::new(CRATE).join("../..");
     let small_plan = root.join("examples/small.plan");
     let program = Path::new(env!("CARGO_TARGET_TMPDIR")).join("header");
@@ -52,8 +52,11 @@ fn a_c_program_checks_the_small_plan() {
     must_succeed("the C program", &run);
     assert_eq!(
         text(&run.stdout),
-        "input: 0, 3 7 1\n\
-         unknown: 2, 1001 1002 1003\n\
-         null: 1, 1001 1002 1003\n"
+        "check input: 0, 3 7 1\n\
+         check unknown: 2, 1001 1002 1003\n\
+         check null: 1, 1001 1002 1003\n\
+         analyse input: 0, 07 06 04 06 06 06 06 A5, 06 04 5A\n\
+         analyse unknown: 2, A5 A5 A5 A5 A5 A5 A5 A5, 5A 5A 5A\n\
+         analyse null: 9, A5 A5 A5 A5 A5 A5 A5 A5, 5A 5A 5A\n"
     );
 }

@@ -6,7 +6,8 @@ use std::io::Write;
 use std::path::{Path, PathBuf};
 use std::process::{Command, Stdio};
 
-use differential::plans;
+use differential::examples::{programs, SMALL};
+use differential::plans::{self, plan};
 use differential::rng::Rng;
 
 fn program() -> PathBuf {
@@ -39,16 +40,16 @@ fn agreed(plan: &[u8]) -> String {
     found
 }
 
-fn plan(cells: usize, commands: &[&[u8]]) -> Vec<u8> {
-    let mut plan = vec![(cells - 1) as u8];
-    plan.extend(commands.concat());
-    plan
+#[test]
+fn the_small_plan() {
+    assert_eq!(agreed(SMALL), "cells 3\n15 dead 1 2 fixed 2 saved 0\n");
 }
 
 #[test]
-fn the_small_plan() {
-    let small = include_bytes!("../../../examples/small.plan");
-    assert_eq!(agreed(small), "cells 3\n15 dead 1 2 fixed 2 saved 0\n");
+fn the_three_programs() {
+    for (_, plan) in programs() {
+        agreed(&plan);
+    }
 }
 
 #[test]

@@ -1,0 +1,4 @@
+//! What the benchmark times the verified library against, and on which plans.
+
+pub mod baseline;
+pub mod plans;

@@ -1,0 +1,26 @@
+//! The plans in `examples/`, whose sets the reference's tests state.
+
+/// Document 01's small plan.
+pub const SMALL: &[u8] = include_bytes!("../../../examples/small.plan");
+
+const CELL: &str = include_str!("../../../examples/cell.hex");
+const SIEVE: &str = include_str!("../../../examples/sieve.hex");
+const CONTOUR: &str = include_str!("../../../examples/contour.hex");
+
+/// Document 001's three programs, with their names.
+pub fn programs() -> [(&'static str, Vec<u8>); 3] {
+    [
+        ("CELL", plan(CELL)),
+        ("SIEVE", plan(SIEVE)),
+        ("CONTOUR", plan(CONTOUR)),
+    ]
+}
+
+/// The bytes of a plan written as text: hexadecimal, and comment from `#` to the line's end.
+fn plan(text: &str) -> Vec<u8> {
+    text.lines()
+        .flat_map(|line| line.split('#').next())
+        .flat_map(str::split_whitespace)
+        .map(|byte| u8::from_str_radix(byte, 16).expect("two hexadecimal digits"))
+        .collect()
+}
