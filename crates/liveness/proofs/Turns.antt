@@ -13,7 +13,7 @@ use Rattle.cellset.specs.Bits.{bit, has, member}
 use Rattle.cellset.specs.Sets.{SetIs}
 use Rattle.cellset.proofs.Bits.{bit-zero, bit-suc, le-or-lt}
 use Rattle.cellset.proofs.Sets.{has-lt2, has-load, member-store, store-below, store-above, store-load, set-ext}
-use Rattle.liveness.specs.Graph.{total, Turned}
+use Rattle.liveness.specs.Graph.{total, meetBit, Turned}
 
 -- a word of w bits whose bits another has is at most that
 bits-le : (w a b : ℕ) → a < 2 ^ w → ((k : ℕ) → k < w → bit a k ≤ bit b k) → a ≤ b
@@ -55,6 +55,17 @@ total-store d at s h four =
     ap total (sets-eq s d at (omega arith))
     ∙ rw four (total-append (take at d ++ s) (drop (at + 4) d) ∙ ap (λ (n : ℕ). n + total (drop (at + 4) d)) (total-append (take at d) s))
 
+-- so it falls where a set gives way to one that has fewer members
+total-falls : (d : List ℕ) (at : ℕ) {old new : List ℕ} {f : ℕ → ℕ} → at + 4 ≤ length d → old ≡ take 4 (drop at d) → SetIs new f
+    → ((c : ℕ) → c < 256 → has new c ≤ has old c) → (new ≡ old → ⊥) → total (sets d at new) < total d
+total-falls d at {old} {new} room old-is new-is fewer n =
+    let four-loaded : length (take 4 (drop at d)) ≡ 4 = simp (length-take, length-drop) (omega arith) in
+    let four : length old ≡ 4 = ap length old-is ∙ four-loaded in
+    let below = total-le new old (new-is .four ∙ sym four) (words-le new old (new-is .four) (new-is .fits) fewer) in
+    let apart : total new ≡ total old → ⊥ = λ h. n (below .1 h) in
+    let whole : total (sets d at old) ≡ total d = ap (λ (s : List ℕ). total (sets d at s)) old-is ∙ ap total (store-load d at room) in
+    omega (arith, total-store d at new room (new-is .four), total-store d at old room four)
+
 -- what is left of a bit is the smaller of it and what the other lacks
 less-min : (y z : ℕ) → y < 2 → y - z ≡ min y (1 - z)
 less-min y z h = omega arith
@@ -63,29 +74,21 @@ less-min y z h = omega arith
 loaded : (ws : List ℕ) (at : ℕ) {s : List ℕ} (c : ℕ) → s ≡ take 4 (drop at ws) → c < 256 → has s c ≡ member ws at c
 loaded ws at c e l = ap (λ (x : List ℕ). has x c) e ∙ has-load ws at c l
 
--- the old set of node i, and the new one that the code makes of it
-pub record Made (reads writes d : List ℕ) (i l r : ℕ) (old new : List ℕ) : Type 0 where
-  pub old-is : old ≡ take 4 (drop (4 * i) d)
-  pub fewer : (c : ℕ) → c < 256 → has new c ≤ has old c
-  pub new-is : SetIs new
-      (λ c. min (member d (4 * i) c) (min (max (min (member d (4 * l) c) (member d (4 * r) c)) (member writes (4 * i) c)) (1 - member reads (4 * i) c)))
-
+-- the set that the code makes for node i has the bits of its equation
 pub made : (reads writes d : List ℕ) (i l r : ℕ) {old a b after w written q less new : List ℕ}
     → old ≡ take 4 (drop (4 * i) d) → a ≡ take 4 (drop (4 * l) d) → b ≡ take 4 (drop (4 * r) d) → SetIs after (λ c. min (has a c) (has b c))
     → w ≡ take 4 (drop (4 * i) writes) → SetIs written (λ c. max (has after c) (has w c)) → q ≡ take 4 (drop (4 * i) reads)
-    → SetIs less (λ c. has written c - has q c) → SetIs new (λ c. min (has old c) (has less c)) → Made reads writes d i l r old new
-made reads writes d i l r {written = written} {q = q} old-is a-is b-is after-is w-is written-is q-is less-is new-is = record {
-  old-is = old-is;
-  fewer = λ c h. omega (arith, new-is .members c h);
-  new-is = set-ext new-is λ c h.
-      let after-bits = after-is .members c h ∙ ap₂ min (loaded d (4 * l) c a-is h) (loaded d (4 * r) c b-is h) in
-      let written-bits = written-is .members c h ∙ ap₂ max after-bits (loaded writes (4 * i) c w-is h) in
-      let less-bits = less-is .members c h ∙ less-min (has written c) (has q c) (has-lt2 written c)
-      ∙ ap₂ (λ (y z : ℕ). min y (1 - z)) written-bits (loaded reads (4 * i) c q-is h) in
-      ap₂ min (loaded d (4 * i) c old-is h) less-bits;
-}
+    → SetIs less (λ c. has written c - has q c) → SetIs new (λ c. min (has old c) (has less c)) → SetIs new (meetBit reads writes i l r d)
+made reads writes d i l r {written = written} {q = q} old-is a-is b-is after-is w-is written-is q-is less-is new-is =
+    set-ext new-is λ c h.
+    let after-bits = after-is .members c h ∙ ap₂ min (loaded d (4 * l) c a-is h) (loaded d (4 * r) c b-is h) in
+    let written-bits = written-is .members c h ∙ ap₂ max after-bits (loaded writes (4 * i) c w-is h) in
+    let less-bits = less-is .members c h ∙ less-min (has written c) (has q c) (has-lt2 written c)
+    ∙ ap₂ (λ (y z : ℕ). min y (1 - z)) written-bits (loaded reads (4 * i) c q-is h) in
+    ap₂ min (loaded d (4 * i) c old-is h) less-bits
 
-module _ {reads writes d : List ℕ} {i l r : ℕ} {old new : List ℕ} (m : Made reads writes d i l r old new) where
+-- the old set of node i, and the new one
+module _ {reads writes d : List ℕ} {i l r : ℕ} {old new : List ℕ} (old-is : old ≡ take 4 (drop (4 * i) d)) (new-is : SetIs new (meetBit reads writes i l r d)) where
   -- the answer of a turn that changes nothing
   pub unchanged : new ≡ old → Turned reads writes i l r d d × (false ≡ false → d ≡ d) × (false ≡ true → total d < total d)
   unchanged e = (turned, (λ h. refl), (λ h. absurd (false≢true h)))
@@ -94,29 +97,20 @@ module _ {reads writes d : List ℕ} {i l r : ℕ} {old new : List ℕ} (m : Mad
       turned = record {
         size = refl;
         others = λ k h. refl;
-        bits = λ c h. sym (loaded d (4 * i) c (e ∙ m .old-is) h) ∙ m .new-is .members c h;
+        bits = λ c h. sym (loaded d (4 * i) c (e ∙ old-is) h) ∙ new-is .members c h;
       }
 
-  module _ (room : 4 * i + 4 ≤ length d) where
-    turned-new : Turned reads writes i l r d (sets d (4 * i) new)
-    turned-new = record {
-      size = length-sets d (4 * i) new;
-      others = λ k. ⊎-elim (store-below d (4 * i) new k) (store-above d (4 * i) new k (m .new-is .four));
-      bits = λ c h. member-store d (4 * i) new c room (m .new-is .four) h ∙ m .new-is .members c h;
-    }
+  turned-new : 4 * i + 4 ≤ length d → Turned reads writes i l r d (sets d (4 * i) new)
+  turned-new room = record {
+    size = length-sets d (4 * i) new;
+    others = λ k. ⊎-elim (store-below d (4 * i) new k) (store-above d (4 * i) new k (new-is .four));
+    bits = λ c h. member-store d (4 * i) new c room (new-is .four) h ∙ new-is .members c h;
+  }
 
-    four-old : length (take 4 (drop (4 * i) d)) ≡ 4
-    four-old = simp (length-take, length-drop) (omega arith)
-
-    total-new : (new ≡ old → ⊥) → total (sets d (4 * i) new) < total d
-    total-new n =
-        let four : length old ≡ 4 = ap length (m .old-is) ∙ four-old in
-        let below = total-le new old (m .new-is .four ∙ sym four) (words-le new old (m .new-is .four) (m .new-is .fits) (m .fewer)) in
-        let apart : total new ≡ total old → ⊥ = λ h. n (below .1 h) in
-        let whole : total (sets d (4 * i) old) ≡ total d = ap (λ (s : List ℕ). total (sets d (4 * i) s)) (m .old-is) ∙ ap total (store-load d (4 * i) room) in
-        omega (arith, total-store d (4 * i) new room (m .new-is .four), total-store d (4 * i) old room four)
-
-    -- the answer of one that changes words
-    pub changed : {d′ : List ℕ} → d′ ≡ sets d (4 * i) new → (new ≡ old → ⊥)
-        → Turned reads writes i l r d d′ × (true ≡ false → d′ ≡ d) × (true ≡ true → total d′ < total d)
-    changed e n = (rw e turned-new, (λ h. absurd (false≢true (sym h))), (λ h. rw e (total-new n)))
+  -- the answer of one that changes words
+  pub changed : {d′ : List ℕ} → 4 * i + 4 ≤ length d → d′ ≡ sets d (4 * i) new → (new ≡ old → ⊥)
+      → Turned reads writes i l r d d′ × (true ≡ false → d′ ≡ d) × (true ≡ true → total d′ < total d)
+  changed room e n = (rw e (turned-new room), (λ h. absurd (false≢true (sym h))), (λ h. rw e (total-falls d (4 * i) room old-is new-is fewer n)))
+    where
+      fewer : (c : ℕ) → c < 256 → has new c ≤ has old c
+      fewer c h = omega (arith, new-is .members c h, loaded d (4 * i) c old-is h)

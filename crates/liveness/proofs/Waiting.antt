@@ -1,11 +1,13 @@
 -- Worklists: the number of flags that are set bounds the numbers in front of the list, and pushing and popping keep a queue a queue.
 -- Assumes nothing.
 use mathlib.Core.Path.{_≡_, refl, sym, _∙_}
+use mathlib.Core.Logic.{_⊎_, inl, inr}
 use mathlib.Core.List.{List, [], _∷_}
-use mathlib.Core.Bool.{Bool, true, false, true≢false, false≢true}
-use Prim.Native.Nat.{ℕ, zero, suc, _+_, _≤_, _<_, zero-le}
+use mathlib.Core.Bool.{Bool, true, false, not, true≢false, false≢true}
+use Prim.Native.Nat.{ℕ, zero, suc, _+_, _-_, _≤_, _<_, zero-le}
 use native.Mathlib.Omega.{arith}
 use native.Mathlib.Decide.{ℕ-discrete}
+use borrow.Author.Tests.{not-true, not-false}
 use lib.ListN.{length, getD, set, length-set}
 use lib.Seq.{getD-set-same, getD-set-other, set-getD}
 use Rattle.liveness.specs.Queue.{count, flag, Room, Queue, Pushed, Grown}
@@ -166,28 +168,57 @@ module _ {n : ℕ} {list₀ : List ℕ} {flags₀ : List Bool} {list : List ℕ}
     grown = λ j h. grown-push p (may-push l .1) j (q .grown j h);
   }
 
+-- `push_path`: number k is pushed, or it is that of the turn
+pub record Way (left list₀ : List ℕ) (flags₀ : List Bool) (k : ℕ) (list : List ℕ) (flags : List Bool) (top i : ℕ) : Type 0 where
+  pub pushes : Pushes (length left) list₀ flags₀ list flags top
+  pub node : i < length left
+  pub passed : (flag flags k ≡ true) ⊎ (i ≡ k)
+
+pub way-first : {left list : List ℕ} {flags : List Bool} {top k : ℕ} → Queue (length left) list flags top → k < length left → Way left list flags k list flags top k
+way-first q l = record { pushes = pushes-first q; node = l; passed = inr refl }
+
+module _ {left list₀ : List ℕ} {flags₀ : List Bool} {k : ℕ} {list : List ℕ} {flags : List Bool} {top i : ℕ} (w : Way left list₀ flags₀ k list flags top i) where
+  -- the number of the turn has a flag
+  pub way-flag : i < length flags
+  way-flag = may-push (w .pushes) (w .node) .1
+
+  module _ {list′ : List ℕ} {flags′ : List Bool} {top′ : ℕ} (p : Pushed list flags top i list′ flags′ top′) where
+    pub way-turn : ((j : ℕ) → j < length left → getD left j 0 < length left) → Way left list₀ flags₀ k list′ flags′ top′ (getD left i 0)
+    way-turn nodes = record {
+      pushes = pushes-turn (w .pushes) (w .node) p;
+      node = nodes i (w .node);
+      passed = inl (elim (w .passed) [ inl h ↦ grown-push p way-flag k h | inr e ↦ rw e at (pushed-flag p way-flag) ]);
+    }
+
+    -- fewer flags are unset
+    pub way-less : not (flag flags i) ≡ true → length flags′ - count flags′ < length flags - count flags
+    way-less h = rw (p .flags-are) (omega (arith, count-set flags i way-flag (not-true (flag flags i) h), count-most (set flags i true), length-set flags i true))
+
+  pub way-done : not (flag flags i) ≡ false → Queue (length left) list flags top × Grown flags₀ flags × (flag flags k ≡ true)
+  way-done h = (w .pushes .queue, w .pushes .grown, elim (w .passed) [ inl s ↦ s | inr e ↦ rw e at (not-false (flag flags i) h) ])
+
 -- `push_all`: the numbers below k are pushed
 pub record All (n : ℕ) (list₀ : List ℕ) (flags₀ : List Bool) (list : List ℕ) (flags : List Bool) (top k : ℕ) : Type 0 where
-  pub pushes : Pushes n list₀ flags₀ list flags top
+  pub queue : Queue n list flags top
+  pub list-size : length list ≡ length list₀
+  pub flags-size : length flags ≡ length flags₀
   pub done : (j : ℕ) → j < k → flag flags j ≡ true
 
 pub all-first : {n : ℕ} {list : List ℕ} {flags : List Bool} {top : ℕ} → Queue n list flags top → All n list flags list flags top 0
-all-first q = record { pushes = pushes-first q; done = λ j l. absurd (omega arith) }
+all-first q = record { queue = q; list-size = refl; flags-size = refl; done = λ j l. absurd (omega arith) }
 
-pub all-turn : {n : ℕ} {list₀ : List ℕ} {flags₀ : List Bool} {list : List ℕ} {flags : List Bool} {top k : ℕ} {list′ : List ℕ} {flags′ : List Bool} {top′ : ℕ}
-    → All n list₀ flags₀ list flags top k → k < n → Pushed list flags top k list′ flags′ top′ → All n list₀ flags₀ list′ flags′ top′ (k + 1)
-all-turn {k = k} q l p = record {
-  pushes = pushes-turn (q .pushes) l p;
-  done = λ j b.
-      elim (ℕ-discrete j k) [
-        | yes e ↦ rw e (pushed-flag p (may-push (q .pushes) l .1))
-        | no ne ↦ pushed-other p j ne ∙ q .done j (omega arith)
-      ];
-}
+module _ {n : ℕ} {list₀ : List ℕ} {flags₀ : List Bool} {list : List ℕ} {flags : List Bool} {top k : ℕ} (a : All n list₀ flags₀ list flags top k) where
+  pub all-turn : {list′ : List ℕ} {flags′ : List Bool} {top′ : ℕ} → length list′ ≡ length list → length flags′ ≡ length flags
+      → Queue n list′ flags′ top′ × Grown flags flags′ × (flag flags′ k ≡ true) → All n list₀ flags₀ list′ flags′ top′ (k + 1)
+  all-turn el ef p = record {
+    queue = p .0;
+    list-size = el ∙ a .list-size;
+    flags-size = ef ∙ a .flags-size;
+    done = λ j b. elim (ℕ-discrete j k) [ yes e ↦ rw e (p .2) | no ne ↦ p .1 j (a .done j (omega arith)) ];
+  }
 
-pub all-done : {n : ℕ} {list₀ : List ℕ} {flags₀ : List Bool} {list : List ℕ} {flags : List Bool} {top k : ℕ} → All n list₀ flags₀ list flags top k → n ≤ k
-    → Queue n list flags top × ((j : ℕ) → j < n → flag flags j ≡ true)
-all-done q l = (q .pushes .queue, λ j b. q .done j (omega arith))
+  pub all-done : n ≤ k → Queue n list flags top × ((j : ℕ) → j < n → flag flags j ≡ true)
+  all-done l = (a .queue, λ j b. a .done j (omega arith))
 
 -- none waits where no flag is set
 pub queue-none : {n : ℕ} {list : List ℕ} {flags : List Bool} → length list ≡ length flags → n ≤ length flags → ((k : ℕ) → flag flags k ≡ false) → Queue n list flags 0

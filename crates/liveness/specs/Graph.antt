@@ -1,7 +1,7 @@
 -- Liveness over a graph that stands in tables: node i goes on to left i or right i, reads the cells of set i of `reads` and surely writes those of set i of `writes`.
 -- A node that goes nowhere stands as one that goes to itself: this adds no path to a reading node.
 -- Assumes nothing.
-use Prim.Native.Nat.{ℕ, _+_, _-_, _*_, _^_, _≤_, _<_, min, max}
+use Prim.Native.Nat.{ℕ, _+_, _-_, _*_, _≤_, _<_, min, max}
 use mathlib.Core.Path.{_≡_}
 use mathlib.Core.Logic.{_⊎_}
 use mathlib.Core.List.{List, [], _∷_}
@@ -29,13 +29,17 @@ abbrev pub total : List ℕ → ℕ
 total [] = 0
 total (x ∷ xs) = x + total xs
 
--- a turn at node i, which goes on to l and r: what stood there, less what the equation does not allow. Dead before a node is what is dead after both
--- ways on or surely written, and not read
+-- the set of node i, which goes on to l and r, met with its equation: a bit of what stood there, less what the equation does not allow. Dead before a
+-- node is what is dead after both ways on or surely written, and not read
+abbrev pub meetBit : (reads writes : List ℕ) (i l r : ℕ) (d : List ℕ) → ℕ → ℕ
+meetBit reads writes i l r d c =
+    min (member d (4 * i) c) (min (max (min (member d (4 * l) c) (member d (4 * r) c)) (member writes (4 * i) c)) (1 - member reads (4 * i) c))
+
+-- a turn at node i, which goes on to l and r: its set is met with its equation, and the other words remain
 pub record Turned (reads writes : List ℕ) (i l r : ℕ) (d d′ : List ℕ) : Type 0 where
   pub size : length d′ ≡ length d
   pub others : (k : ℕ) → (k < 4 * i) ⊎ (4 * i + 4 ≤ k) → getD d′ k 0 ≡ getD d k 0
-  pub bits : (c : ℕ) → c < 256
-      → member d′ (4 * i) c ≡ min (member d (4 * i) c) (min (max (min (member d (4 * l) c) (member d (4 * r) c)) (member writes (4 * i) c)) (1 - member reads (4 * i) c))
+  pub bits : (c : ℕ) → c < 256 → member d′ (4 * i) c ≡ meetBit reads writes i l r d c
 
 -- what the worklist begins with: the chains by the right ways on, and every node waiting
 pub record Ready (left right heads links list : List ℕ) (flags : List Bool) (top : ℕ) : Type 0 where

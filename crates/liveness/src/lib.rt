@@ -13,21 +13,31 @@ ghost use mathlib.Core.Path.{_≡_};
 ghost use mathlib.Core.Bool.{true, false};
 ghost use Prim.Native.Nat.{ℕ, _+_, _*_, _≤_, _<_};
 ghost use lib.ListN.{length};
-ghost use Rattle.liveness.specs.Graph.{Wired, Rooms, Ready, total, Turned, Drained, Settled, Full};
+ghost use Rattle.cellset.specs.Sets.{SetIs};
+ghost use Rattle.liveness.specs.Graph.{Wired, Rooms, Ready, total, meetBit, Turned, Drained, Settled, Full};
 
-// Meets the set of node i, which goes on to l and r, with its equation. Did it change?
+// The set of node i, which goes on to l and r, met with its equation.
+fn met(dead: &[u64], reads: &[u64], writes: &[u64], i: usize, l: usize, r: usize) -> CellSet
+    requires { ⌜ (4 * i + 4 ≤ length (now dead)) × (4 * l + 4 ≤ length (now dead)) × (4 * r + 4 ≤ length (now dead)) × (4 * i + 4 ≤ length (now reads)) × (4 * i + 4 ≤ length (now writes)) ⌝ }
+    ensures { λ z. ⌜ SetIs (z .words) (meetBit (now (reads .entry)) (now (writes .entry)) i l r (now (dead .entry))) ⌝ }
+{
+    let old = cellset::load(dead, 4 * i);
+    let after = cellset::intersection(cellset::load(dead, 4 * l), cellset::load(dead, 4 * r));
+    let written = cellset::union(after, cellset::load(writes, 4 * i));
+    cellset::intersection(
+        old,
+        cellset::difference(written, cellset::load(reads, 4 * i)),
+    )
+}
+
+// Puts the set that is met in the place of node i. Did it change?
 fn turn(dead: &mut [u64], reads: &[u64], writes: &[u64], i: usize, l: usize, r: usize) -> bool
     requires { ⌜ (4 * i + 4 ≤ length (now dead)) × (4 * l + 4 ≤ length (now dead)) × (4 * r + 4 ≤ length (now dead)) × (4 * i + 4 ≤ length (now reads)) × (4 * i + 4 ≤ length (now writes)) ⌝ }
     ensures { λ z. ⌜ Turned (now (reads .entry)) (now (writes .entry)) i l r (now (dead .entry)) (now (dead .exit))
         × (z ≡ false → now (dead .exit) ≡ now (dead .entry)) × (z ≡ true → total (now (dead .exit)) < total (now (dead .entry))) ⌝ }
 {
     let old = cellset::load(dead, 4 * i);
-    let after = cellset::intersection(cellset::load(dead, 4 * l), cellset::load(dead, 4 * r));
-    let written = cellset::union(after, cellset::load(writes, 4 * i));
-    let new = cellset::intersection(
-        old,
-        cellset::difference(written, cellset::load(reads, 4 * i)),
-    );
+    let new = met(dead, reads, writes, i, l, r);
     if cellset::equal(new, old) {
         return false;
     }
@@ -94,7 +104,7 @@ pub fn settle(
     let mut list = [0u16; 512];
     let mut flags = [false; 512];
     thread(right, &mut heads, &mut links);
-    let top = push_all(&mut list, &mut flags, n as u16);
+    let top = push_all(&mut list, &mut flags, left);
     fill(dead, n, cells);
     drain(
         left,

@@ -21,15 +21,33 @@ pub fn push(list: &mut [u16], flags: &mut [bool], top: usize, k: u16) -> usize
     top + 1
 }
 
-// Puts all numbers below n there. None waits before.
-pub fn push_all(list: &mut [u16], flags: &mut [bool], n: u16) -> usize
-    requires { ⌜ Queue n (now list) (now flags) 0 ⌝ }
-    ensures { λ r. ⌜ Queue n (now (list .exit)) (now (flags .exit)) r × ((k : ℕ) → k < n → flag (now (flags .exit)) k ≡ true) ⌝ }
+// Puts k there, then the number that follows it on the left way, and so on until one that is there already.
+fn push_path(list: &mut [u16], flags: &mut [bool], first: usize, left: &[u16], k: u16) -> usize
+    requires { ⌜ Queue (length (now left)) (now list) (now flags) first × ((i : ℕ) → i < length (now left) → getD (now left) i 0 < length (now left)) × (k < length (now left)) ⌝ }
+    ensures { λ r. ⌜ Queue (length (now (left .entry))) (now (list .exit)) (now (flags .exit)) r × Grown (now (flags .entry)) (now (flags .exit)) × (flag (now (flags .exit)) k ≡ true) ⌝ }
 {
+    let mut top = first;
+    let mut i = k;
+    while !flags[i as usize] {
+        top = push(list, flags, top, i);
+        i = left[i as usize];
+    }
+    top
+}
+
+// Puts the number of each place of `left` there, along the left ways from 0 on, so that a number is popped
+// after those that follow it, and straight code and chains of jumps are settled in one visit each. None
+// waits before.
+pub fn push_all(list: &mut [u16], flags: &mut [bool], left: &[u16]) -> usize
+    requires { ⌜ Queue (length (now left)) (now list) (now flags) 0 × (length (now left) ≤ 512) × ((i : ℕ) → i < length (now left) → getD (now left) i 0 < length (now left)) ⌝ }
+    ensures { λ r. ⌜ Queue (length (now (left .entry))) (now (list .exit)) (now (flags .exit)) r
+        × ((k : ℕ) → k < length (now (left .entry)) → flag (now (flags .exit)) k ≡ true) ⌝ }
+{
+    let n = left.len() as u16;
     let mut top = 0;
     let mut k: u16 = 0;
     while k < n {
-        top = push(list, flags, top, k);
+        top = push_path(list, flags, top, left, k);
         k += 1;
     }
     top

@@ -27,11 +27,10 @@ slice-aggregate-push-all c = search needs
 slice-aggregate-push-all-2 : tie.Need-slice-aggregate-push-all-2
 slice-aggregate-push-all-2 c = search needs
 
-cast-push-all : tie.Need-cast-push-all
-cast-push-all c = search needs
-
 push-all-requires : tie.Need-push-all-requires
-push-all-requires c κs = queue-fresh _ 512 (c .before .before .before .before .before .before .before .before .before .before .before .before .pre .0 .few)
+push-all-requires c κs =
+    let w = c .before .before .before .before .before .before .before .before .before .before .before .before .pre .0 in
+    (queue-fresh _ 512 (w .few), w .few, w .left-node)
 
 fill-requires : tie.Need-fill-requires
 fill-requires c κs = search needs
@@ -79,7 +78,6 @@ settle-spec =
     thread-requires
     slice-aggregate-push-all
     slice-aggregate-push-all-2
-    cast-push-all
     push-all-requires
     fill-requires
     slice-aggregate-drain

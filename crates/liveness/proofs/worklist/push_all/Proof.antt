@@ -3,40 +3,45 @@
 -- Assumes nothing.
 use Prim.Native.Nat.{_-_}
 use native.Mathlib.Omega.{arith}
+use lib.ListN.{length}
 use borrow.Author.Needs.{needs}
-use Rattle.liveness.proofs.Waiting.{All, all-first, all-turn, all-done, may-push}
+use Rattle.liveness.proofs.Waiting.{All, all-first, all-turn, all-done}
 use Rattle.liveness.proofs.worklist.push_all.Statement.{statement}
 use Rattle.liveness.proofs.worklist.push_all.Tie as tie
 
 abbrev Inv-loop : tie.InvT-loop
-Inv-loop list₀ flags₀ n top₀ k₀ list flags top k = All n list₀ flags₀ list flags top k
+Inv-loop list₀ flags₀ left n top₀ k₀ list flags top k = All (length left) list₀ flags₀ list flags top k
 
 abbrev μ-loop : tie.MeasureT-loop
-μ-loop list₀ flags₀ n top₀ k₀ list flags top k = n - k
+μ-loop list₀ flags₀ left n top₀ k₀ list flags top k = n - k
+
+cast-n : tie.Need-cast-n Inv-loop μ-loop
+cast-n c = search needs
 
 loop-holds : tie.Need-loop-holds Inv-loop μ-loop
-loop-holds c = all-first (c .before .before .pre)
+loop-holds c = all-first (c .before .before .before .pre .0)
 
-push-requires : tie.Need-push-requires Inv-loop μ-loop
-push-requires c κs = may-push (c .before .before .before .loop .inv .pushes) (c .before .before .loop-test .taken)
+push-path-requires : tie.Need-push-path-requires Inv-loop μ-loop
+push-path-requires c κs =
+    let at-test = c .before .before in
+    (at-test .before .loop .inv .queue, at-test .before .before .before .before .before .pre .2, at-test .loop-test .taken)
 
 add-k : tie.Need-add-k Inv-loop μ-loop
 add-k c = search needs
 
 loop-less : tie.Need-loop-less Inv-loop μ-loop
-loop-less c = let l = c .before .before .before .before .before .before .before .loop-test .taken in omega arith
+loop-less c = omega (arith, c .before .before .before .before .before .before .before .loop-test .taken)
 
 loop-again : tie.Need-loop-again Inv-loop μ-loop
 loop-again c =
-    let at-push = c .before .before .before .before in
-    let at-test = at-push .before .before .before in
-    all-turn (at-test .before .loop .inv) (at-test .loop-test .taken) (at-push .push .ensures)
+    let at-path = c .before .before .before .before in
+    all-turn (at-path .before .before .before .before .loop .inv) (at-path .push-path .kept .0) (at-path .push-path .kept .1 .0) (at-path .push-path .ensures)
 
 same-length : tie.Need-same-length Inv-loop μ-loop
-same-length c = c .before .loop .inv .pushes .list-size
+same-length c = c .before .loop .inv .list-size
 
 same-length-2 : tie.Need-same-length-2 Inv-loop μ-loop
-same-length-2 c = c .before .loop .inv .pushes .flags-size
+same-length-2 c = c .before .loop .inv .flags-size
 
 returns : tie.Need-returns Inv-loop μ-loop
 returns c = all-done (c .before .loop .inv) (c .loop-test .left)
@@ -47,8 +52,9 @@ push-all-spec =
     (tie.spec
     Inv-loop
     μ-loop
+    cast-n
     loop-holds
-    push-requires
+    push-path-requires
     add-k
     loop-less
     loop-again
