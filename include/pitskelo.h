@@ -42,7 +42,7 @@ uint32_t pitskelo_check(const uint8_t *plan, size_t plan_len,
 /*
  * Checks a plan and finds its sets. Result: 0, or 1 to 9.
  *
- * dead, of at least 2,048 words (16,384 bytes), gets one set for each command, in the order of their
+ * dead, of at least 2,048 words (16,384 bytes), gets one set for each command, in the order of the
  * offsets: the cells that are dead before it. sets, of at least 512 words (4,096 bytes), gets two
  * for each EXCLUDE, in that order too. First DE: the cells dead at every CHECKPOINT of its region,
  * none if the region has no CHECKPOINT. Then RO: the cells that no command of the region may write.

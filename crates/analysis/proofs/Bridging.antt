@@ -1,10 +1,9 @@
 -- Paths through the tables are paths through the program, so the dead sets that the worklist leaves are those of the program.
 -- Assumes nothing.
-use mathlib.Core.Path.{_≡_, refl, sym, ap, _∙_, subst}
+use mathlib.Core.Path.{_≡_, refl, sym, _∙_, subst}
 use mathlib.Core.Logic.{_⊎_, inl, inr, ⊎-elim}
 use mathlib.Core.List.{List}
-use mathlib.Core.Bool.{true}
-use Prim.Native.Nat.{ℕ, _+_, _*_, _≤_, _<_}
+use Prim.Native.Nat.{ℕ, _*_, _≤_, _<_}
 use native.Mathlib.Omega.{arith}
 use lib.ListN.{length, getD, take, length-take}
 use lib.Seq.{getD-take}
@@ -12,7 +11,7 @@ use Rattle.cellset.specs.Bits.{member}
 use Rattle.instruction.specs.Bytes.{cellsOf}
 use Rattle.liveness.specs.Graph as graph
 use Rattle.graph.specs.Tables.{countOf, startOf, Passed, Goes, Ways, Tables}
-use Rattle.analysis.specs.Paths.{Follows, Live, reads, later, Dead}
+use Rattle.analysis.specs.Paths.{Live, reads, later}
 use Rattle.analysis.specs.Analyse.{DeadSets}
 use Rattle.analysis.specs.Search.{Mapped, Known}
 

@@ -1,12 +1,12 @@
 -- From the numbers of a region to DE and RO: what the two loops over the list compute is what document 01's sentences say of the region.
 -- Assumes nothing.
-use mathlib.Core.Path.{_≡_, refl, sym, _∙_}
+use mathlib.Core.Path.{_≡_, refl, _∙_}
 use mathlib.Core.Logic.{⊎-elim}
 use mathlib.Core.List.{List}
-use mathlib.Core.Bool.{Bool, true, false, cond}
+use mathlib.Core.Bool.{true, false, cond}
 use Prim.Native.Nat.{ℕ, zero, suc, _+_, _-_, _*_, _/_, _%_, _≤_, _<_, min, zero-le}
 use native.Mathlib.Omega.{arith}
-use lib.ListN.{length, getD}
+use lib.ListN.{getD}
 use lib.Dec.{eqb}
 use borrow.Author.Tests.{eqb-true, eqb-false, eq-eqb}
 use Rattle.cellset.specs.Bits.{member, within}
@@ -14,8 +14,8 @@ use Rattle.cellset.proofs.Bits.{bit-lt, within-in, within-high, le-or-lt}
 use Rattle.instruction.specs.Bytes.{byte, cellsOf, instructionAt}
 use Rattle.instruction.specs.Table.{mayDef}
 use Rattle.program.proofs.Tests.{bool-cases, clash, or-cases, or-none}
-use Rattle.graph.specs.Tables.{countOf, startOf, Offsets}
-use Rattle.analysis.specs.Paths.{Live, Region, DE, RO, LiveSave, unsaved, live-at, Written}
+use Rattle.graph.specs.Tables.{startOf, Offsets}
+use Rattle.analysis.specs.Paths.{DE, RO, LiveSave, unsaved, live-at, Written}
 use Rattle.analysis.specs.Search.{Known, Found, offsetAt, savesAt, saves, deadAll, keptAll}
 use Rattle.analysis.proofs.Laws.{access-lt}
 

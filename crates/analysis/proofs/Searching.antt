@@ -3,8 +3,8 @@
 use mathlib.Core.Path.{_≡_, refl, sym, ap, _∙_, subst}
 use mathlib.Core.Logic.{_⊎_, inl, inr, ⊎-elim}
 use mathlib.Core.List.{List, [], _∷_}
-use mathlib.Core.Bool.{Bool, true, false, cond}
-use Prim.Native.Nat.{ℕ, _+_, _≤_, _<_, zero-le}
+use mathlib.Core.Bool.{Bool, true, false}
+use Prim.Native.Nat.{ℕ, _+_, _≤_, _<_}
 use native.Mathlib.Omega.{arith}
 use lib.ListN.{length, getD, set}
 use lib.Seq.{getD-set-same, getD-set-other}
@@ -16,7 +16,7 @@ use Rattle.program.specs.Starts.{among}
 use Rattle.program.proofs.Tests.{bool-cases, clash, or-cases}
 use Rattle.program.proofs.Accepted.{accepted, start-within}
 use Rattle.liveness.specs.Queue.{flag, Room, Queue, Pushed, Grown}
-use Rattle.liveness.proofs.Waiting.{count-most, room-left, pushed-flag, pushed-room, pushed-size, grown-push, queue-push}
+use Rattle.liveness.proofs.Waiting.{count-most, room-left, pushed-flag, grown-push, queue-push}
 use Rattle.graph.specs.Tables.{countOf, startOf, Passed, Goes, Ways}
 use Rattle.graph.proofs.Numbers.{start-of}
 use Rattle.analysis.specs.Paths.{Follows, Region, first, onward}

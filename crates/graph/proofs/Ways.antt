@@ -17,7 +17,7 @@ use Rattle.program.specs.Check.{closes}
 use Rattle.program.specs.Places.{isStart}
 use Rattle.program.proofs.Tests.{bool-cases, clash, or-cases, and-both}
 use Rattle.program.proofs.Accepted.{Accepted, start-targets}
-use Rattle.graph.specs.Tables.{countOf, startOf, Offsets, Numbered, leftOf, rightOf, Goes, Led}
+use Rattle.graph.specs.Tables.{countOf, startOf, Offsets, Numbered, leftOf, rightOf, Led}
 use Rattle.graph.proofs.Numbers.{start-of, index-of, next-of}
 
 -- where instruction i may go

@@ -204,8 +204,8 @@ pub record All (n : ℕ) (list₀ : List ℕ) (flags₀ : List Bool) (list : Lis
   pub flags-size : length flags ≡ length flags₀
   pub done : (j : ℕ) → j < k → flag flags j ≡ true
 
-pub all-first : {n : ℕ} {list : List ℕ} {flags : List Bool} {top : ℕ} → Queue n list flags top → All n list flags list flags top 0
-all-first q = record { queue = q; list-size = refl; flags-size = refl; done = λ j l. absurd (omega arith) }
+pub all-first : {n : ℕ} {list : List ℕ} {flags : List Bool} {top k : ℕ} → Queue n list flags top → k ≤ 0 → All n list flags list flags top k
+all-first q z = record { queue = q; list-size = refl; flags-size = refl; done = λ j l. absurd (omega arith) }
 
 module _ {n : ℕ} {list₀ : List ℕ} {flags₀ : List Bool} {list : List ℕ} {flags : List Bool} {top k : ℕ} (a : All n list₀ flags₀ list flags top k) where
   pub all-turn : {list′ : List ℕ} {flags′ : List Bool} {top′ : ℕ} → length list′ ≡ length list → length flags′ ≡ length flags
@@ -216,6 +216,11 @@ module _ {n : ℕ} {list₀ : List ℕ} {flags₀ : List Bool} {list : List ℕ}
     flags-size = ef ∙ a .flags-size;
     done = λ j b. elim (ℕ-discrete j k) [ yes e ↦ rw e (p .2) | no ne ↦ p .1 j (a .done j (omega arith)) ];
   }
+
+  -- and one more way
+  pub all-more : {list′ : List ℕ} {flags′ : List Bool} {top′ : ℕ} (x : ℕ) → length list′ ≡ length list → length flags′ ≡ length flags
+      → Queue n list′ flags′ top′ × Grown flags flags′ × (flag flags′ x ≡ true) → All n list₀ flags₀ list′ flags′ top′ k
+  all-more x el ef p = record { queue = p .0; list-size = el ∙ a .list-size; flags-size = ef ∙ a .flags-size; done = λ j b. p .1 j (a .done j b) }
 
   pub all-done : n ≤ k → Queue n list flags top × ((j : ℕ) → j < n → flag flags j ≡ true)
   all-done l = (a .queue, λ j b. a .done j (omega arith))

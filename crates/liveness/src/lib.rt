@@ -104,7 +104,7 @@ pub fn settle(
     let mut list = [0u16; 512];
     let mut flags = [false; 512];
     thread(right, &mut heads, &mut links);
-    let top = push_all(&mut list, &mut flags, left);
+    let top = push_all(&mut list, &mut flags, left, right);
     fill(dead, n, cells);
     drain(
         left,

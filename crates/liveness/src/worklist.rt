@@ -5,6 +5,7 @@ ghost use mathlib.Core.Path.{_≡_};
 ghost use mathlib.Core.Bool.{true};
 ghost use Prim.Native.Nat.{ℕ, _+_, _≤_, _<_};
 ghost use lib.ListN.{length, getD};
+ghost use Rattle.liveness.specs.Graph.{Wired};
 ghost use Rattle.liveness.specs.Queue.{flag, Room, Queue, Pushed, Grown, On, Falls, Chains};
 
 // Puts number k behind the first `top` of the list, unless its flag is set. Gives the new top.
@@ -35,19 +36,20 @@ fn push_path(list: &mut [u16], flags: &mut [bool], first: usize, left: &[u16], k
     top
 }
 
-// Puts the number of each place of `left` there, along the left ways from 0 on, so that a number is popped
-// after those that follow it, and straight code and chains of jumps are settled in one visit each. None
-// waits before.
-pub fn push_all(list: &mut [u16], flags: &mut [bool], left: &[u16]) -> usize
-    requires { ⌜ Queue (length (now left)) (now list) (now flags) 0 × (length (now left) ≤ 512) × ((i : ℕ) → i < length (now left) → getD (now left) i 0 < length (now left)) ⌝ }
+// Puts the number of each node there, from 0 on along its left way and then along its right way. Within a
+// way a number is popped after those that follow it, so that straight code and most chains of jumps are
+// settled in one visit each; the order decides the time only. None waits before.
+pub fn push_all(list: &mut [u16], flags: &mut [bool], left: &[u16], right: &[u16]) -> usize
+    requires { ⌜ Queue (length (now left)) (now list) (now flags) 0 × Wired (now left) (now right) ⌝ }
     ensures { λ r. ⌜ Queue (length (now (left .entry))) (now (list .exit)) (now (flags .exit)) r
         × ((k : ℕ) → k < length (now (left .entry)) → flag (now (flags .exit)) k ≡ true) ⌝ }
 {
     let n = left.len() as u16;
     let mut top = 0;
-    let mut k: u16 = 0;
+    let mut k = 0;
     while k < n {
         top = push_path(list, flags, top, left, k);
+        top = push_path(list, flags, top, left, right[k as usize]);
         k += 1;
     }
     top

@@ -186,8 +186,8 @@ fn reads_and_writes(command: &[u8]) -> (Set, Set) {
     }
 }
 
-/// Fills in the dead set of each command. All cells are taken for dead at first; where one turns out
-/// live, the commands that may come before are tried again. The last command comes first, which
+/// Fills in the dead set of each command. All cells are taken for dead at first; where one turns
+/// out live, the commands that may come before are tried again. The last command comes first, which
 /// suits most plans; a chain of jumps backward takes time that grows with its square.
 fn find_dead(commands: &[Command], all: Set, dead: &mut [Set]) {
     dead[..commands.len()].fill(all);

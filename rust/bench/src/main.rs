@@ -1,6 +1,7 @@
 //! Times the verified library against the baseline, in turns: check, and the whole of analyse, on
 //! each plan. A line gives the microseconds of a call of each, the least of many turns, and the
-//! ratio of the two. With `--bar X` a ratio above X is a failure.
+//! ratio of the two. With `--bar X` a ratio above X is a failure:
+//! `cargo run --release -p bench -- --bar 2`.
 
 use std::env;
 use std::hint::black_box;

@@ -80,7 +80,7 @@ fn jumps_backward() -> Vec<u8> {
     linked(256, &commands)
 }
 
-/// 512 commands, 320 of them LESS to anywhere and 64 EXCLUDE. So every region has almost all of them.
+/// 512 commands, 320 of them LESS to anywhere and 64 EXCLUDE, so that the regions overlap.
 fn many_less() -> Vec<u8> {
     let mut cell = cells();
     let mut commands: Vec<Command> = Vec::new();

@@ -13,8 +13,8 @@ fn buffers(len: usize, words: &[u64]) -> (Vec<u64>, Vec<u64>) {
     (before, after)
 }
 
-/// Asserts that baseline and reference agree on the plan, in buffers of so many words, and gives the
-/// result.
+/// Asserts that baseline and reference agree on the plan, in buffers of so many words, and gives
+/// the result.
 #[track_caller]
 fn agreed(plan: &[u8], dead_len: usize, sets_len: usize) -> u32 {
     assert_eq!(check(plan), reference::check(plan), "plan {plan:02X?}");

@@ -1,5 +1,5 @@
 //! What the differential tests share: the verified library's C interface as safe functions, random
-//! plans, and the plans in `examples/`.
+//! plans and their features, and the plans in `examples/`.
 
 pub mod examples;
 pub mod features;

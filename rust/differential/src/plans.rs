@@ -1,5 +1,5 @@
-//! Plans made of given commands, and random plans. Those made as a `Draft` break no rule but perhaps
-//! the limits on size, so a test knows their answer without asking any check.
+//! Plans of given commands, and random plans. Those made as a `Draft` break no rule but perhaps the
+//! limits on size, so a test knows their answer without asking any check.
 
 use crate::rng::Rng;
 use reference::program::{
@@ -299,7 +299,7 @@ pub fn reversed(rng: &mut Rng) -> Draft {
     draft
 }
 
-/// An accepted plan of 300 to 512 commands, or of fewer in almost 2,048 bytes, woven.
+/// An accepted plan of at least 300 commands, woven.
 pub fn large(rng: &mut Rng) -> Draft {
     let cells = few_cells(rng, 16);
     let mut draft = Draft::woven(rng, cells);

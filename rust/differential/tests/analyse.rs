@@ -394,8 +394,8 @@ fn draft(rng: &mut Rng, make: Maker, accepted: bool) -> Vec<u8> {
     }
 }
 
-/// How many of the random plans below have each feature. When the generators change, the new numbers
-/// are those that the test prints; none may be under 100.
+/// How many of the random plans below have each feature. When the generators change, the new
+/// numbers are those that the test prints; none may be under 100.
 const FEATURES: [(&str, u32); 37] = [
     ("1 cell", 5_017),
     ("63 cells", 485),

@@ -1,8 +1,7 @@
 -- `analysis::fill` meets its contract: the tables, the dead sets settled over them, and the sets of the EXCLUDEs.
 -- Assumes nothing.
-use mathlib.Core.Path.{_≡_, sym, _∙_}
+use mathlib.Core.Path.{sym}
 use native.Mathlib.Omega.{arith}
-use lib.ListN.{length, length-replicate}
 use lib.Seq.{length-take-le}
 use Rattle.analysis.specs.Analyse.{DeadSets}
 use Rattle.analysis.proofs.Searching.{few-of}

@@ -30,7 +30,7 @@ slice-aggregate-push-all-2 c = search needs
 push-all-requires : tie.Need-push-all-requires
 push-all-requires c κs =
     let w = c .before .before .before .before .before .before .before .before .before .before .before .before .pre .0 in
-    (queue-fresh _ 512 (w .few), w .few, w .left-node)
+    (queue-fresh _ 512 (w .few), w)
 
 fill-requires : tie.Need-fill-requires
 fill-requires c κs = search needs

@@ -1,7 +1,7 @@
 -- `analysis::region::exclude_sets` meets its contract. The invariant: the sets of the EXCLUDEs before instruction i stand there.
 -- The measure is the number of instructions left.
 -- Assumes nothing.
-use mathlib.Core.Path.{_≡_, sym, _∙_}
+use mathlib.Core.Path.{_≡_}
 use Prim.Native.Nat.{_-_, _<_}
 use native.Mathlib.Omega.{arith}
 use borrow.Author.Needs.{needs}

@@ -2,26 +2,14 @@
 -- The measure is the list's room behind `done`.
 -- Assumes nothing.
 use mathlib.Core.Path.{_≡_, refl, sym, _∙_}
-use Prim.Native.Nat.{_-_, _<_, _≤_}
+use Prim.Native.Nat.{_-_}
 use native.Mathlib.Omega.{arith}
 use lib.ListN.{length, getD}
 use borrow.Author.Needs.{needs}
 use Rattle.liveness.specs.Queue.{Queue}
 use Rattle.liveness.proofs.Waiting.{queue-none}
 use Rattle.graph.specs.Tables.{countOf}
-use Rattle.analysis.proofs.Searching.{
-  few-of,
-  Searching,
-  searching-first,
-  searching-stop,
-  may-both,
-  searching-turn,
-  searching-done,
-  front-place,
-  front-small,
-  front-start,
-  front-inside,
-}
+use Rattle.analysis.proofs.Searching.{few-of, Searching, searching-first, searching-stop, may-both, searching-turn, searching-done, front-place, front-small, front-start, front-inside}
 use Rattle.analysis.proofs.region.search.Statement.{statement}
 use Rattle.analysis.proofs.region.search.Tie as tie
 
