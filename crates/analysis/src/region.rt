@@ -29,7 +29,7 @@ fn push_both(list: &mut [u16], seen: &mut [bool], top: usize, l: u16, r: u16) ->
     push(list, seen, next, r)
 }
 
-// Lists the instructions of the region of EXCLUDE number i of all instructions. No flag is set before.
+// Lists the instructions of the region of the EXCLUDE that is instruction i. No flag is set before.
 fn search(
     p: &[u8],
     at: &[u16],
