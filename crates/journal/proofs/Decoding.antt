@@ -1,0 +1,143 @@
+-- Unique decoding: bytes that begin with the image of a sound checkpoint begin with no other's, so bytes hold one list of sound checkpoints, as many as
+-- there are. An image ends in 5A, so not in FF, and is not empty. A commit enters by its fields alone: another layout changes `commit-alike` and `commit-eq`.
+-- Assumes nothing.
+use mathlib.Core.Path.{_≡_, refl, sym, _∙_, ap, ap₂}
+use mathlib.Core.List.{List, [], _∷_, _++_, append-assoc, head-eq-of-cons-eq, tail-eq-of-cons-eq}
+use Prim.Native.Nat.{ℕ, _^_, _<_}
+use native.Mathlib.Omega.{arith}
+use lib.ListN.{length, take, drop, getD, length-append}
+use lib.Seq.{take-at, drop-at}
+use Rattle.word.specs.Bytes.{bytesOf, numberOf}
+use Rattle.word.proofs.Bytes.{length-bytes, number-bytes}
+use Rattle.journal.specs.declared.Commit.{Commit}
+use Rattle.journal.specs.Format.{Saved, Field, Checkpoint, fieldsOf, fieldsImage, commitImage, recordsImage, image, images}
+use Rattle.journal.specs.Reading.{Facts, Once, After, Sound, Rising, lastOf, Whole}
+
+-- ---- a number
+
+-- numbers of one width are told by their bytes, whatever follows
+pub number-same : (n v w : ℕ) (s t : List ℕ) → v < 256 ^ n → w < 256 ^ n → bytesOf n v ++ s ≡ bytesOf n w ++ t → (v ≡ w) × (s ≡ t)
+number-same n v w s t h k e =
+    let p = length-bytes n v in
+    let q = length-bytes n w in
+    let b : bytesOf n v ≡ bytesOf n w = sym (take-at (bytesOf n v) s n p) ∙ ap (take n) e ∙ take-at (bytesOf n w) t n q in (
+      sym (number-bytes n v h) ∙ ap numberOf b ∙ number-bytes n w k,
+      sym (drop-at (bytesOf n v) s n p) ∙ ap (drop n) e ∙ drop-at (bytesOf n w) t n q,
+    )
+
+-- the same where something stands between them and the rest
+next-same : (n v w : ℕ) (a c s t : List ℕ) → v < 256 ^ n → w < 256 ^ n → (bytesOf n v ++ a) ++ s ≡ (bytesOf n w ++ c) ++ t
+    → (v ≡ w) × (a ++ s ≡ c ++ t)
+next-same n v w a c s t h k e = number-same n v w (a ++ s) (c ++ t) h k (sym (append-assoc (bytesOf n v) a s) ∙ e ∙ append-assoc (bytesOf n w) c t)
+
+-- ---- fields
+
+-- fields of the same widths, each with a number that it holds
+pub data Alike : List Field → List Field → Type 0 where
+  none : Alike [] []
+  one : {n v w : ℕ} {fs gs : List Field} → v < 256 ^ n → w < 256 ^ n → Alike fs gs
+      → Alike (record { width = n; number = v } ∷ fs) (record { width = n; number = w } ∷ gs)
+
+pub fields-same : {fs gs : List Field} (end : ℕ) (s t : List ℕ) → Alike fs gs → fieldsImage fs end ++ s ≡ fieldsImage gs end ++ t → (fs ≡ gs) × (s ≡ t)
+unfolding fieldsImage
+fields-same end s t none e = (refl, tail-eq-of-cons-eq e)
+fields-same end s t (one {n} {v} {w} {fs} {gs} h k a) e =
+    let d = next-same n v w (fieldsImage fs end) (fieldsImage gs end) s t h k e in
+    let u = fields-same end s t a (d .1) in
+    let ev : v ≡ w = d .0 in
+    let es : fs ≡ gs = u .0 in
+    ((λ i. record { width = n; number = ev i } ∷ es i), u .1)
+
+-- ---- a commit
+
+commit-alike : {F F′ : Facts} {b b′ c c′ : Commit} → After F b c → After F′ b′ c′ → Alike (fieldsOf c) (fieldsOf c′)
+commit-alike h k =
+    one (h .place-fits) (k .place-fits)
+    (one (h .exclude-fits) (k .exclude-fits) (one (h .readings-fit) (k .readings-fit) (one (h .outputs-fit) (k .outputs-fit) none)))
+
+commit-eq : {c c′ : Commit} → fieldsOf c ≡ fieldsOf c′ → c ≡ c′
+commit-eq {c} {c′} e =
+    let place : c .place ≡ c′ .place = number-at 0 in
+    let exclude : c .exclude ≡ c′ .exclude = number-at 1 in
+    let readings : c .readings ≡ c′ .readings = number-at 2 in
+    let outputs : c .outputs ≡ c′ .outputs = number-at 3 in
+    λ i. record { place = place i; exclude = exclude i; readings = readings i; outputs = outputs i }
+  where
+    number-at : (k : ℕ) → getD (fieldsOf c) k (record { width = 0; number = 0 }) .number ≡ getD (fieldsOf c′) k (record { width = 0; number = 0 }) .number
+    number-at k = ap (λ (fs : List Field). getD fs k (record { width = 0; number = 0 }) .number) e
+
+-- ---- a checkpoint
+
+records-same : {F F′ : Facts} {n n′ : ℕ} {b b′ c c′ : Commit} {rs rs′ : List Saved} (s t : List ℕ) → Once n rs → Once n′ rs′ → After F b c → After F′ b′ c′
+    → recordsImage rs (commitImage c) ++ s ≡ recordsImage rs′ (commitImage c′) ++ t → (rs ≡ rs′) × (c ≡ c′) × (s ≡ t)
+unfolding recordsImage
+records-same s t Once.none Once.none h k e = let d = fields-same 0x5A s t (commit-alike h k) (tail-eq-of-cons-eq e) in (refl, commit-eq (d .0), d .1)
+records-same s t Once.none (Once.one i j a o) h k e = absurd (let z : _≡_ {A = ℕ} 0xA2 0xA1 = head-eq-of-cons-eq e in omega arith)
+records-same s t (Once.one i j a o) Once.none h k e = absurd (let z : _≡_ {A = ℕ} 0xA1 0xA2 = head-eq-of-cons-eq e in omega arith)
+records-same {c = c} {c′ = c′} s t (Once.one {r} {rs} i j a o) (Once.one {r = r′} {rs = rs′} i′ j′ a′ o′) h k e =
+    let f = tail-eq-of-cons-eq e in
+    let d = next-same 4 (r .value) (r′ .value) (recordsImage rs (commitImage c)) (recordsImage rs′ (commitImage c′)) s t j j′ (tail-eq-of-cons-eq f) in
+    let u = records-same s t o o′ h k (d .1) in
+    let cell : r .cell ≡ r′ .cell = head-eq-of-cons-eq f in
+    let value : r .value ≡ r′ .value = d .0 in
+    let all : rs ≡ rs′ = u .0 in
+    ((λ i. record { cell = cell i; value = value i } ∷ all i), u .1, u .2)
+
+-- bytes that begin with the image of a sound checkpoint decode to it and to nothing else
+pub unique : {F F′ : Facts} {b b′ : Commit} (x y : Checkpoint) (s t : List ℕ) → Sound F b x → Sound F′ b′ y → image x ++ s ≡ image y ++ t → (x ≡ y) × (s ≡ t)
+unfolding image
+unique x y s t h k e =
+    let d = records-same s t (h .once) (k .once) (h .after) (k .after) e in
+    let records : x .records ≡ y .records = d .0 in
+    let commit : x .commit ≡ y .commit = d .1 in
+    ((λ i. record { records = records i; commit = commit i }), d .2)
+
+-- ---- checkpoints one after the other
+
+-- bytes with a sound checkpoint at their front begin with a whole one
+front-whole : {F : Facts} {b : Commit} (x : Checkpoint) (l s t : List ℕ) → Sound F b x → s ≡ image x ++ l ++ t → Whole F b s
+front-whole x l s t h e = record { save = x; sound = h; rest = l ++ t; bytes = e ∙ append-assoc (image x) l t }
+
+-- bytes hold one list of sound checkpoints after which no whole one comes
+pub same-saves : {F : Facts} {b : Commit} {js js′ : List Checkpoint} (s t : List ℕ) → Rising F b js → Rising F b js′ → images js ++ s ≡ images js′ ++ t
+    → ¬ Whole F (lastOf b js) s → ¬ Whole F (lastOf b js′) t → (js ≡ js′) × (s ≡ t)
+unfolding images lastOf
+same-saves s t Rising.none Rising.none e m n = (refl, e)
+same-saves s t Rising.none (Rising.one {s = x} {js = js} h r) e m n =
+    absurd (m (front-whole x (images js) s t h e))
+same-saves s t (Rising.one {s = x} {js = js} h r) Rising.none e m n =
+    absurd (n (front-whole x (images js) t s h (sym e)))
+same-saves {F} s t (Rising.one {s = x} {js = js} h r) (Rising.one {s = y} {js = js′} k r′) e m n =
+    let u = unique x y (images js ++ s) (images js′ ++ t) h k (sym (append-assoc (image x) (images js) s) ∙ e ∙ append-assoc (image y) (images js′) t) in
+    let rise : Rising F (x .commit) js′ = rw (u .0) r′ in
+    let v = same-saves s t r rise (u .1) m (rw (u .0) n) in
+    (ap₂ {A = Checkpoint} (λ j l. j ∷ l) (u .0) (v .0), v .1)
+
+-- ---- the end of an image
+
+-- l is something and then the byte z
+pub record EndsIn (z : ℕ) (l : List ℕ) : Type 0 where
+  pub front : List ℕ
+  pub bytes : l ≡ front ++ (z ∷ [])
+
+ends-append : {z : ℕ} (a : List ℕ) {l : List ℕ} → EndsIn z l → EndsIn z (a ++ l)
+ends-append {z} a e = record { front = a ++ e .front; bytes = ap (λ (x : List ℕ). a ++ x) (e .bytes) ∙ sym (append-assoc a (e .front) (z ∷ [])) }
+
+fields-end : (fs : List Field) (end : ℕ) → EndsIn end (fieldsImage fs end)
+unfolding fieldsImage
+fields-end [] end = record { front = []; bytes = refl }
+fields-end (f ∷ fs) end = ends-append (bytesOf (f .width) (f .number)) (fields-end fs end)
+
+records-end : {z : ℕ} (rs : List Saved) {l : List ℕ} → EndsIn z l → EndsIn z (recordsImage rs l)
+unfolding recordsImage
+records-end [] e = e
+records-end (r ∷ rs) e = ends-append (0xA1 ∷ r .cell ∷ bytesOf 4 (r .value)) (records-end rs e)
+
+-- an image ends in 5A
+pub image-end : (s : Checkpoint) → EndsIn 0x5A (image s)
+unfolding image
+image-end s = records-end (s .records) (ends-append (0xA2 ∷ []) (fields-end (fieldsOf (s .commit)) 0x5A))
+
+-- so it is not empty
+pub image-some : (s : Checkpoint) → 0 < length (image s)
+image-some s = let e = image-end s in omega (arith, ap length (e .bytes), length-append (e .front) (0x5A ∷ []))

@@ -1,0 +1,140 @@
+-- A torn checkpoint, cut short of its image, is never taken for whole, however many FF bytes follow it (`never-whole`), and without its trailing FF bytes it
+-- is still a beginning (`trim-part`). Only unique decoding is used, and that an image ends in 5A.
+-- Assumes nothing.
+use mathlib.Core.Path.{_≡_, refl, sym, _∙_, ap, ap₂, subst}
+use mathlib.Core.List.{List, [], _∷_, _++_, append-assoc, append-nil, head-eq-of-cons-eq, tail-eq-of-cons-eq, cons-ne-nil, concat-ne-nil}
+use mathlib.Core.Logic.{_⊎_}
+use Prim.Native.Nat.{ℕ, zero, suc, _+_, _<_, _≤_}
+use native.Mathlib.Omega.{arith}
+use lib.ListN.{length, replicate, length-append, replicate-append-replicate}
+use lib.Dec.{leb, eqb}
+use borrow.Author.Tests.{leb-true, leb-false, eqb-true, eqb-false}
+use Rattle.program.proofs.Tests.{bool-cases}
+use Rattle.journal.specs.declared.Commit.{Commit}
+use Rattle.journal.specs.Format.{Checkpoint, image}
+use Rattle.journal.specs.Reading.{Facts, Sound, Begins, Whole}
+use Rattle.journal.proofs.Decoding.{unique, image-end, image-some}
+
+-- q is cut short of the image of a checkpoint that is sound after b
+pub record Part (F : Facts) (b : Commit) (q : List ℕ) : Type 0 where
+  pub save : Checkpoint
+  pub sound : Sound F b save
+  pub more : List ℕ
+  pub bytes : image save ≡ q ++ more
+  pub short : 0 < length more
+
+-- what a stopped engine leaves behind the whole checkpoints: nothing, or a part of one
+abbrev pub Cut : Facts → Commit → List ℕ → Type 0
+Cut F b q = (q ≡ []) ⊎ Part F b q
+
+-- a part is a beginning, and a beginning that is not whole is a part
+pub part-begins : {F : Facts} {b : Commit} {q : List ℕ} → Part F b q → Begins F b q
+part-begins p = record { save = p .save; sound = p .sound; rest = p .more; bytes = p .bytes }
+
+pub begins-part : {F : Facts} {b : Commit} {q : List ℕ} → Begins F b q → ¬ Whole F b q → Part F b q
+begins-part {F} {b} {q} g w = go (g .rest) (g .bytes)
+  where
+    go : (l : List ℕ) → image (g .save) ≡ q ++ l → Part F b q
+    go [] e = absurd (w (record { save = g .save; sound = g .sound; rest = []; bytes = sym (append-nil q) ∙ sym e ∙ sym (append-nil (image (g .save))) }))
+    go (x ∷ l) e = record { save = g .save; sound = g .sound; more = x ∷ l; bytes = e; short = omega arith }
+
+-- nothing of a sound checkpoint is a part of it
+pub part-first : {F : Facts} {b : Commit} (s : Checkpoint) → Sound F b s → Part F b []
+part-first s h = record { save = s; sound = h; more = image s; bytes = refl; short = image-some s }
+
+-- what is left of a part is one
+pub part-less : {F : Facts} {b : Commit} (q u : List ℕ) → Part F b (q ++ u) → Part F b q
+part-less q u p = record {
+  save = p .save;
+  sound = p .sound;
+  more = u ++ p .more;
+  bytes = p .bytes ∙ append-assoc q u (p .more);
+  short = (let h = p .short in omega (arith, length-append u (p .more)));
+}
+
+-- ---- never whole
+
+-- of two beginnings of one list the shorter begins the other
+pub nested : (a b s t : List ℕ) → a ++ s ≡ b ++ t → length a ≤ length b → (u : List ℕ) × (b ≡ a ++ u) × (s ≡ u ++ t)
+nested [] b s t e h = (b, refl, e)
+nested (x ∷ a) [] s t e h = absurd (omega arith)
+nested (x ∷ a) (y ∷ b) s t e h =
+    let r = nested a b s t (tail-eq-of-cons-eq e) (omega arith) in
+    (r .0, ap₂ {A = ℕ} (λ i l. i ∷ l) (sym (head-eq-of-cons-eq e)) (r .1), r .2)
+
+-- FF bytes hold no 5A
+no-end : (m : ℕ) (u t : List ℕ) → ¬ (replicate m 0xFF ≡ u ++ 0x5A ∷ t)
+no-end zero [] t e = cons-ne-nil _ _ (sym e)
+no-end zero (x ∷ u) t e = cons-ne-nil _ _ (sym e)
+no-end (suc m) [] t e = let z : _≡_ {A = ℕ} 0xFF 0x5A = head-eq-of-cons-eq e in omega arith
+no-end (suc m) (x ∷ u) t e = no-end m u t (tail-eq-of-cons-eq e)
+
+-- an image does not end among FF bytes
+reaches : (s : Checkpoint) (q t : List ℕ) (m : ℕ) → q ++ replicate m 0xFF ≡ image s ++ t → length (image s) ≤ length q
+reaches s q t m e =
+    let z = image-end s in
+    let g : q ++ replicate m 0xFF ≡ z .front ++ 0x5A ∷ t = e ∙ ap (λ (l : List ℕ). l ++ t) (z .bytes) ∙ append-assoc (z .front) (0x5A ∷ []) t in
+    let n = ap length (z .bytes) ∙ length-append (z .front) (0x5A ∷ []) in
+    bool-cases (leb (length (image s)) (length q))
+    (λ y. leb-true _ _ y)
+    (λ y.
+    let l : length q < length (image s) = leb-false _ _ y in
+    let r = nested q (z .front) (replicate m 0xFF) (0x5A ∷ t) g (omega arith) in
+    absurd (no-end m (r .0) t (r .2)))
+
+-- a part and FF bytes after it begin with no whole checkpoint, of this program or another
+pub never-whole : {F F′ : Facts} {b b′ : Commit} (q : List ℕ) (m : ℕ) → Part F b q → ¬ Whole F′ b′ (q ++ replicate m 0xFF)
+never-whole q m p w =
+    let i = image (w .save) in
+    let n = nested i q (w .rest) (replicate m 0xFF) (sym (w .bytes)) (reaches (w .save) q (w .rest) m (w .bytes)) in
+    let e = ap (λ (l : List ℕ). l ++ p .more) (n .1) ∙ append-assoc i (n .0) (p .more) in
+    let g : image (p .save) ++ [] ≡ i ++ (n .0 ++ p .more) = append-nil (image (p .save)) ∙ p .bytes ∙ e in
+    let z : [] ≡ n .0 ++ p .more = unique (p .save) (w .save) [] (n .0 ++ p .more) (p .sound) (w .sound) g .1 in
+    let h = p .short in
+    omega (arith, ap length z, length-append (n .0) (p .more))
+
+-- nor do FF bytes alone
+pub erased-not-whole : {F : Facts} {b : Commit} (m : ℕ) → ¬ Whole F b (replicate m 0xFF)
+erased-not-whole m w = omega (arith, reaches (w .save) [] (w .rest) m (w .bytes), image-some (w .save))
+
+-- ---- without trailing FF bytes
+
+-- FF bytes behind FF bytes
+pub ff-join : (l : List ℕ) (n m : ℕ) → l ++ replicate n 0xFF ++ replicate m 0xFF ≡ l ++ replicate (n + m) 0xFF
+ff-join l n m = append-assoc l (replicate n 0xFF) (replicate m 0xFF) ∙ ap (λ (x : List ℕ). l ++ x) (replicate-append-replicate n m 0xFF)
+
+abbrev pub Trimmed : List ℕ → Type 0
+Trimmed q = (l : List ℕ) → ¬ (q ≡ l ++ (0xFF ∷ []))
+
+-- q as what is kept of it and FF bytes, as many as there are
+pub record Trim (q : List ℕ) : Type 0 where
+  pub kept : List ℕ
+  pub cut : ℕ
+  pub bytes : q ≡ kept ++ replicate cut 0xFF
+  pub trimmed : Trimmed kept
+
+pub trimmed-nil : Trimmed []
+trimmed-nil l e = concat-ne-nil 0xFF l (sym e)
+
+trimmed-one : (x : ℕ) → ¬ (x ≡ 0xFF) → Trimmed (x ∷ [])
+trimmed-one x h [] e = h (head-eq-of-cons-eq e)
+trimmed-one x h (y ∷ l) e = trimmed-nil l (tail-eq-of-cons-eq e)
+
+trimmed-cons : (x y : ℕ) (l : List ℕ) → Trimmed (y ∷ l) → Trimmed (x ∷ y ∷ l)
+trimmed-cons x y l h [] e = cons-ne-nil _ _ (tail-eq-of-cons-eq e)
+trimmed-cons x y l h (z ∷ k) e = h k (tail-eq-of-cons-eq e)
+
+pub trim : (q : List ℕ) → Trim q
+trim [] = record { kept = []; cut = 0; bytes = refl; trimmed = trimmed-nil }
+trim (x ∷ q) = go (trim q .kept) (trim q .cut) (trim q .bytes) (trim q .trimmed)
+  where
+    go : (k : List ℕ) (n : ℕ) → q ≡ k ++ replicate n 0xFF → Trimmed k → Trim (x ∷ q)
+    go [] n e h =
+        bool-cases (eqb x 0xFF)
+        (λ t. record { kept = []; cut = suc n; bytes = ap₂ {A = ℕ} (λ i l. i ∷ l) (eqb-true _ _ t) e; trimmed = trimmed-nil })
+        (λ t. record { kept = x ∷ []; cut = n; bytes = ap (λ (l : List ℕ). x ∷ l) e; trimmed = trimmed-one x (eqb-false _ _ t) })
+    go (y ∷ k) n e h = record { kept = x ∷ y ∷ k; cut = n; bytes = ap (λ (l : List ℕ). x ∷ l) e; trimmed = trimmed-cons x y k h }
+
+-- a part without them is a part still
+pub trim-part : {F : Facts} {b : Commit} (q : List ℕ) → Part F b q → Part F b (trim q .kept)
+trim-part {F} {b} q p = part-less (trim q .kept) (replicate (trim q .cut) 0xFF) (subst (λ (l : List ℕ). Part F b l) (trim q .bytes) p)

@@ -1,0 +1,56 @@
+-- The bytes of a checkpoint (document 01: a save): "for each Include or Pending cell that exists, `A1`, cell, value (6 bytes), in any order, then a MARK of 14
+-- bytes". A journal's checkpoints stand one after the other.
+-- Assumes nothing.
+use Prim.Native.Nat.{ℕ}
+use mathlib.Core.List.{List, [], _∷_, _++_}
+use Rattle.word.specs.Bytes.{bytesOf}
+use Rattle.journal.specs.declared.Commit.{Commit}
+
+-- a cell and its value, a 32-bit pattern
+pub record Saved : Type 0 where
+  pub cell : ℕ
+  pub value : ℕ
+
+pub record Checkpoint : Type 0 where
+  pub records : List Saved
+  pub commit : Commit
+
+-- "`A1`, cell, value"
+abbrev pub recordImage : Saved → List ℕ
+recordImage r = 0xA1 ∷ r .cell ∷ bytesOf 4 (r .value)
+
+-- a number and how many bytes it takes
+pub record Field : Type 0 where
+  pub width : ℕ
+  pub number : ℕ
+
+-- the fields of a MARK: "offset after the CHECKPOINT (2), offset of the last EXCLUDE executed or 0 (2), readings taken (4), outputs given (4)"
+abbrev pub fieldsOf : Commit → List Field
+fieldsOf c =
+    record { width = 2; number = c .place }
+    ∷ record { width = 2; number = c .exclude }
+    ∷ record { width = 4; number = c .readings }
+    ∷ record { width = 4; number = c .outputs }
+    ∷ []
+
+-- fields one after the other, and then a byte
+unfoldable pub fieldsImage : List Field → ℕ → List ℕ
+fieldsImage [] end = end ∷ []
+fieldsImage (f ∷ fs) end = bytesOf (f .width) (f .number) ++ fieldsImage fs end
+
+-- "`A2`, .., `5A`"
+abbrev pub commitImage : Commit → List ℕ
+commitImage c = 0xA2 ∷ fieldsImage (fieldsOf c) 0x5A
+
+-- the records, then the rest
+unfoldable pub recordsImage : List Saved → List ℕ → List ℕ
+recordsImage [] rest = rest
+recordsImage (r ∷ rs) rest = recordImage r ++ recordsImage rs rest
+
+unfoldable pub image : Checkpoint → List ℕ
+image s = recordsImage (s .records) (commitImage (s .commit))
+
+-- the checkpoints one after the other
+unfoldable pub images : List Checkpoint → List ℕ
+images [] = []
+images (s ∷ js) = image s ++ images js
