@@ -5,9 +5,10 @@ ghost use mathlib.Core.Path.{_≡_};
 ghost use mathlib.Core.Bool.{true};
 ghost use Prim.Native.Nat.{ℕ, _+_, _-_, _≤_, _<_, min, max};
 ghost use lib.Dec.{eqb};
-ghost use lib.ListN.{length, take, drop};
+ghost use lib.ListN.{length, getD, take, drop};
 ghost use lib.Seq.{sets};
 ghost use Rattle.cellset.specs.Bits.{bit, has, is, within};
+ghost use Rattle.cellset.specs.Members.{members, bitsFrom};
 ghost use Rattle.cellset.specs.Sets.{SetIs};
 
 const ALL: u64 = 0xffff_ffff_ffff_ffff;
@@ -154,4 +155,47 @@ pub fn store(ws: &mut [u64], at: usize, s: CellSet)
     ws[at + 1] = s.words[1];
     ws[at + 2] = s.words[2];
     ws[at + 3] = s.words[3];
+}
+
+// How many cells a set has.
+pub fn count(a: CellSet) -> u32
+    ensures { λ r. ⌜ r ≡ length (members (a .words)) ⌝ }
+{
+    u64::count_ones(a.words[0])
+        + u64::count_ones(a.words[1])
+        + u64::count_ones(a.words[2])
+        + u64::count_ones(a.words[3])
+}
+
+// The set bit of w that has k set bits below it; 64 where there is none.
+fn nth_bit(w: u64, k: u32) -> u32
+    ensures { λ r. ⌜ r ≡ getD (bitsFrom w 0 64) k 64 ⌝ }
+{
+    let mut rest = w;
+    let mut left = k;
+    while 0 < left {
+        if rest == 0 {
+            return 64;
+        }
+        rest = rest & (rest - 1);
+        left -= 1;
+    }
+    u64::trailing_zeros(rest)
+}
+
+// The cell of a set that has k of its cells below it; 0 where there is none.
+pub fn nth(a: CellSet, k: u32) -> u8
+    ensures { λ r. ⌜ r ≡ getD (members (a .words)) k 0 ⌝ }
+{
+    let mut left = k;
+    let mut i: usize = 0;
+    while i < 4 {
+        let n = u64::count_ones(a.words[i]);
+        if left < n {
+            return (64 * i as u32 + nth_bit(a.words[i], left)) as u8;
+        }
+        left -= n;
+        i += 1;
+    }
+    0
 }

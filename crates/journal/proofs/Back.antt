@@ -7,9 +7,7 @@ use mathlib.Core.Logic.{inl, inr, ⊎-elim}
 use Prim.Native.Nat.{ℕ, zero, suc, _+_, _<_, _≤_}
 use native.Mathlib.Omega.{arith}
 use lib.ListN.{length, replicate}
-use lib.Dec.{leb}
-use borrow.Author.Tests.{leb-true, leb-false}
-use Rattle.program.proofs.Tests.{bool-cases}
+use Rattle.cellset.proofs.Bits.{le-or-lt}
 use Rattle.journal.specs.declared.Commit.{Commit}
 use Rattle.journal.specs.Format.{Checkpoint, images}
 use Rattle.journal.specs.Reading.{Facts, first, Rising, lastOf, Whole, Reading, Torn, Damaged}
@@ -56,9 +54,10 @@ trimmed-least q t k n h e l =
 -- bytes without their trailing FF bytes are told by them
 trimmed-same : (q t : List ℕ) (k n : ℕ) → Trimmed q → Trimmed t → q ++ replicate k 0xFF ≡ t ++ replicate n 0xFF → q ≡ t
 trimmed-same q t k n h g e =
-    bool-cases (leb (length q) (length t))
-    (λ y. trimmed-least q t k n g e (leb-true _ _ y))
-    (λ y. let l : length t < length q = leb-false _ _ y in sym (trimmed-least t q n k h (sym e) (omega arith)))
+    ⊎-elim
+    (λ (l : length q ≤ length t). trimmed-least q t k n g e l)
+    (λ (l : length t < length q). sym (trimmed-least t q n k h (sym e) (omega arith)))
+    (le-or-lt (length q) (length t))
 
 pub one-reading : {F : Facts} {chip : List ℕ} {js js′ : List Checkpoint} {q q′ : List ℕ} → Reading F chip js q → Reading F chip js′ q′ → (js ≡ js′) × (q ≡ q′)
 one-reading {F} {chip} {js} {js′} {q} {q′} r r′ =
@@ -112,7 +111,8 @@ shape-reads {F} {chip} {js} {q} s =
     }
 
 -- every reading of such bytes has these checkpoints, and has the shape again: nothing or a part is left
-pub read-shape : {F : Facts} {chip : List ℕ} {js js′ : List Checkpoint} {q q′ : List ℕ} → Shape F chip js q → Reading F chip js′ q′ → (js′ ≡ js) × Shape F chip js q′
+pub read-shape : {F : Facts} {chip : List ℕ} {js js′ : List Checkpoint} {q q′ : List ℕ} → Shape F chip js q → Reading F chip js′ q′
+    → (js′ ≡ js) × Shape F chip js q′
 read-shape {F} {chip} {js} {js′} {q} {q′} s r =
     let t = shape-reads s in
     let o = one-reading r (t .reading) in

@@ -2,7 +2,7 @@
 -- there are. An image ends in 5A, so not in FF, and is not empty. A commit enters by its fields alone: another layout changes `commit-alike` and `commit-eq`.
 -- Assumes nothing.
 use mathlib.Core.Path.{_≡_, refl, sym, _∙_, ap, ap₂}
-use mathlib.Core.List.{List, [], _∷_, _++_, append-assoc, head-eq-of-cons-eq, tail-eq-of-cons-eq}
+use mathlib.Core.List.{List, [], _∷_, _++_, append-assoc, append-nil, head-eq-of-cons-eq, tail-eq-of-cons-eq}
 use Prim.Native.Nat.{ℕ, _^_, _<_}
 use native.Mathlib.Omega.{arith}
 use lib.ListN.{length, take, drop, getD, length-append}
@@ -12,6 +12,7 @@ use Rattle.word.proofs.Bytes.{length-bytes, number-bytes}
 use Rattle.journal.specs.declared.Commit.{Commit}
 use Rattle.journal.specs.Format.{Saved, Field, Checkpoint, fieldsOf, fieldsImage, commitImage, recordsImage, image, images}
 use Rattle.journal.specs.Reading.{Facts, Once, After, Sound, Rising, lastOf, Whole}
+use Rattle.journal.proofs.Images.{records-append, noField}
 
 -- ---- a number
 
@@ -25,11 +26,6 @@ number-same n v w s t h k e =
       sym (drop-at (bytesOf n v) s n p) ∙ ap (drop n) e ∙ drop-at (bytesOf n w) t n q,
     )
 
--- the same where something stands between them and the rest
-next-same : (n v w : ℕ) (a c s t : List ℕ) → v < 256 ^ n → w < 256 ^ n → (bytesOf n v ++ a) ++ s ≡ (bytesOf n w ++ c) ++ t
-    → (v ≡ w) × (a ++ s ≡ c ++ t)
-next-same n v w a c s t h k e = number-same n v w (a ++ s) (c ++ t) h k (sym (append-assoc (bytesOf n v) a s) ∙ e ∙ append-assoc (bytesOf n w) c t)
-
 -- ---- fields
 
 -- fields of the same widths, each with a number that it holds
@@ -42,7 +38,9 @@ pub fields-same : {fs gs : List Field} (end : ℕ) (s t : List ℕ) → Alike fs
 unfolding fieldsImage
 fields-same end s t none e = (refl, tail-eq-of-cons-eq e)
 fields-same end s t (one {n} {v} {w} {fs} {gs} h k a) e =
-    let d = next-same n v w (fieldsImage fs end) (fieldsImage gs end) s t h k e in
+    let x = fieldsImage fs end in
+    let y = fieldsImage gs end in
+    let d = number-same n v w (x ++ s) (y ++ t) h k (sym (append-assoc (bytesOf n v) x s) ∙ e ∙ append-assoc (bytesOf n w) y t) in
     let u = fields-same end s t a (d .1) in
     let ev : v ≡ w = d .0 in
     let es : fs ≡ gs = u .0 in
@@ -63,25 +61,39 @@ commit-eq {c} {c′} e =
     let outputs : c .outputs ≡ c′ .outputs = number-at 3 in
     λ i. record { place = place i; exclude = exclude i; readings = readings i; outputs = outputs i }
   where
-    number-at : (k : ℕ) → getD (fieldsOf c) k (record { width = 0; number = 0 }) .number ≡ getD (fieldsOf c′) k (record { width = 0; number = 0 }) .number
-    number-at k = ap (λ (fs : List Field). getD fs k (record { width = 0; number = 0 }) .number) e
+    number-at : (k : ℕ) → getD (fieldsOf c) k noField .number ≡ getD (fieldsOf c′) k noField .number
+    number-at k = ap (λ (fs : List Field). getD fs k noField .number) e
 
 -- ---- a checkpoint
 
+-- records before an A2 begin with the records that their bytes begin with
+pub peel : {n n′ : ℕ} {rs rs′ : List Saved} (m t : List ℕ) → Once n rs → Once n′ rs′ → recordsImage rs′ (0xA2 ∷ t) ≡ recordsImage rs m
+    → (more : List Saved) × (rs′ ≡ rs ++ more) × (recordsImage more (0xA2 ∷ t) ≡ m)
+unfolding recordsImage
+peel {rs′ = rs′} m t Once.none k e = (rs′, refl, e)
+peel m t (Once.one i j a o) Once.none e = absurd (let z : _≡_ {A = ℕ} 0xA2 0xA1 = head-eq-of-cons-eq e in omega arith)
+peel m t (Once.one {r} {rs} i j a o) (Once.one {r = r′} {rs = rs′} i′ j′ a′ o′) e =
+    let f = tail-eq-of-cons-eq e in
+    let d = number-same 4 (r′ .value) (r .value) (recordsImage rs′ (0xA2 ∷ t)) (recordsImage rs m) j′ j (tail-eq-of-cons-eq f) in
+    let u = peel m t o o′ (d .1) in
+    let cell : r′ .cell ≡ r .cell = head-eq-of-cons-eq f in
+    let value : r′ .value ≡ r .value = d .0 in
+    let all : rs′ ≡ rs ++ u .0 = u .1 in
+    (u .0, (λ i. record { cell = cell i; value = value i } ∷ all i), u .2)
+
+-- and a commit behind them is the same
 records-same : {F F′ : Facts} {n n′ : ℕ} {b b′ c c′ : Commit} {rs rs′ : List Saved} (s t : List ℕ) → Once n rs → Once n′ rs′ → After F b c → After F′ b′ c′
     → recordsImage rs (commitImage c) ++ s ≡ recordsImage rs′ (commitImage c′) ++ t → (rs ≡ rs′) × (c ≡ c′) × (s ≡ t)
 unfolding recordsImage
-records-same s t Once.none Once.none h k e = let d = fields-same 0x5A s t (commit-alike h k) (tail-eq-of-cons-eq e) in (refl, commit-eq (d .0), d .1)
-records-same s t Once.none (Once.one i j a o) h k e = absurd (let z : _≡_ {A = ℕ} 0xA2 0xA1 = head-eq-of-cons-eq e in omega arith)
-records-same s t (Once.one i j a o) Once.none h k e = absurd (let z : _≡_ {A = ℕ} 0xA1 0xA2 = head-eq-of-cons-eq e in omega arith)
-records-same {c = c} {c′ = c′} s t (Once.one {r} {rs} i j a o) (Once.one {r = r′} {rs = rs′} i′ j′ a′ o′) h k e =
-    let f = tail-eq-of-cons-eq e in
-    let d = next-same 4 (r .value) (r′ .value) (recordsImage rs (commitImage c)) (recordsImage rs′ (commitImage c′)) s t j j′ (tail-eq-of-cons-eq f) in
-    let u = records-same s t o o′ h k (d .1) in
-    let cell : r .cell ≡ r′ .cell = head-eq-of-cons-eq f in
-    let value : r .value ≡ r′ .value = d .0 in
-    let all : rs ≡ rs′ = u .0 in
-    ((λ i. record { cell = cell i; value = value i } ∷ all i), u .1, u .2)
+records-same {c = c} {c′ = c′} {rs = rs} {rs′ = rs′} s t o o′ h k e =
+    let p = peel (commitImage c ++ s) _ o o′ (sym (records-append rs′ (commitImage c′) t) ∙ sym e ∙ records-append rs (commitImage c) s) in
+    go (p .0) (p .1) (p .2)
+  where
+    go : (more : List Saved) → rs′ ≡ rs ++ more → recordsImage more (commitImage c′ ++ t) ≡ commitImage c ++ s → (rs ≡ rs′) × (c ≡ c′) × (s ≡ t)
+    go [] a f =
+        let d = fields-same 0x5A s t (commit-alike h k) (sym (tail-eq-of-cons-eq f)) in
+        (sym (a ∙ append-nil rs), commit-eq (d .0), d .1)
+    go (r ∷ more) a f = absurd (let z : _≡_ {A = ℕ} 0xA1 0xA2 = head-eq-of-cons-eq f in omega arith)
 
 -- bytes that begin with the image of a sound checkpoint decode to it and to nothing else
 pub unique : {F F′ : Facts} {b b′ : Commit} (x y : Checkpoint) (s t : List ℕ) → Sound F b x → Sound F′ b′ y → image x ++ s ≡ image y ++ t → (x ≡ y) × (s ≡ t)

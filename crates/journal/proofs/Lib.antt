@@ -1,7 +1,22 @@
--- The theorems over bytes that the crates above cite, and document 01's row about the first save.
+-- The theorems over bytes, the laws of the answer of `scan` and of a checkpoint that is written, which the crates above cite, and document 01's row about the
+-- first save; below, what they and the proofs of the functions use.
 -- Assumes nothing.
 pub mod Decoding
 pub mod Torn
 pub mod Back
 pub mod Storing
+pub mod Written
+pub mod Fixed
 pub mod Examples
+mod Images
+mod Meeting
+mod Numbers
+mod Offsets
+mod Fieldwise
+mod Passing
+mod Restoring
+mod Tails
+mod Peeling
+mod Walking
+mod Trimming
+mod Joining

@@ -11,7 +11,7 @@ use lib.ListN.{length, take, drop, getD, set, replicate, length-append, length-d
 use lib.Seq.{sets, sets-eq, take-at, drop-at, take-suc, take-length, length-take-le}
 use Rattle.journal.specs.declared.Commit.{Commit}
 use Rattle.journal.specs.Format.{Checkpoint, image, images}
-use Rattle.journal.specs.Reading.{Facts, first, Sound, Rising, lastOf}
+use Rattle.journal.specs.Reading.{Facts, first, Sound, Rising, lastOf, savedIn, savedValue}
 use Rattle.journal.proofs.Torn.{ff-join}
 use Rattle.journal.proofs.Back.{Shape, cut-less}
 
@@ -31,6 +31,11 @@ pub last-snoc : (b : Commit) (js : List Checkpoint) (s : Checkpoint) → lastOf 
 unfolding lastOf
 last-snoc b [] s = refl
 last-snoc b (j ∷ js) s = last-snoc (j .commit) js s
+
+pub saved-snoc : (c : ℕ) (js : List Checkpoint) (s : Checkpoint) (v : ℕ) → savedValue c (js ++ (s ∷ [])) v ≡ savedIn c (s .records) (savedValue c js v)
+unfolding savedValue
+saved-snoc c [] s v = refl
+saved-snoc c (j ∷ js) s v = saved-snoc c js s (savedIn c (j .records) v)
 
 -- ---- bytes
 
@@ -62,7 +67,8 @@ unput p q u m =
 
 -- ---- a store and an erase
 
-pub shape-length : {F : Facts} {chip : List ℕ} {js : List Checkpoint} {q : List ℕ} (h : Shape F chip js q) → length chip ≡ length (images js) + length q + h .free
+pub shape-length : {F : Facts} {chip : List ℕ} {js : List Checkpoint} {q : List ℕ} (h : Shape F chip js q)
+    → length chip ≡ length (images js) + length q + h .free
 shape-length {js = js} {q = q} h =
     let f : length (replicate {A = ℕ} (h .free) 0xFF) ≡ h .free = length-replicate (h .free) 0xFF in
     omega (arith, ap length (h .bytes), length-append (images js ++ q) (replicate (h .free) 0xFF), length-append (images js) q)
@@ -77,8 +83,8 @@ stored-bytes {F} {chip} {js} {q} h u r =
     ∙ put (images js) q u (h .free - length u)
 
 -- the next bytes of the checkpoint s, not the last
-pub stored : {F : Facts} {chip : List ℕ} {js : List Checkpoint} {q : List ℕ} → Shape F chip js q → (s : Checkpoint) (u more : List ℕ) → Sound F (lastOf first js) s
-    → image s ≡ q ++ u ++ more → 0 < length more → length (images js) + length q + length u ≤ length chip
+pub stored : {F : Facts} {chip : List ℕ} {js : List Checkpoint} {q : List ℕ} → Shape F chip js q → (s : Checkpoint) (u more : List ℕ)
+    → Sound F (lastOf first js) s → image s ≡ q ++ u ++ more → 0 < length more → length (images js) + length q + length u ≤ length chip
     → Shape F (sets chip (length (images js) + length q) u) js (q ++ u)
 stored h s u more g e l r = record {
   free = h .free - length u;
@@ -88,11 +94,12 @@ stored h s u more g e l r = record {
 }
 
 -- the last bytes of it: one more whole checkpoint, and nothing torn
-pub completed : {F : Facts} {chip : List ℕ} {js : List Checkpoint} {q : List ℕ} → Shape F chip js q → (s : Checkpoint) (u : List ℕ) → Sound F (lastOf first js) s
-    → image s ≡ q ++ u → length (images js) + length q + length u ≤ length chip
+pub completed : {F : Facts} {chip : List ℕ} {js : List Checkpoint} {q : List ℕ} → Shape F chip js q → (s : Checkpoint) (u : List ℕ)
+    → Sound F (lastOf first js) s → image s ≡ q ++ u → length (images js) + length q + length u ≤ length chip
     → Shape F (sets chip (length (images js) + length q) u) (js ++ (s ∷ [])) []
 completed {js = js} {q = q} h s u g e r =
-    let i : images js ++ (q ++ u) ≡ images (js ++ (s ∷ [])) ++ [] = ap (λ (x : List ℕ). images js ++ x) (sym e) ∙ sym (images-snoc js s) ∙ sym (append-nil (images (js ++ (s ∷ [])))) in
+    let n = ap (λ (x : List ℕ). images js ++ x) (sym e) ∙ sym (images-snoc js s) in
+    let i : images js ++ (q ++ u) ≡ images (js ++ (s ∷ [])) ++ [] = n ∙ sym (append-nil (images (js ++ (s ∷ [])))) in
     record {
       free = h .free - length u;
       rising = rising-snoc s (h .rising) g;

@@ -3,12 +3,14 @@
 -- Assumes nothing.
 use mathlib.Core.Path.{_≡_, refl, sym, _∙_, ap, ap₂, subst}
 use mathlib.Core.List.{List, [], _∷_, _++_, append-assoc, append-nil, head-eq-of-cons-eq, tail-eq-of-cons-eq, cons-ne-nil, concat-ne-nil}
-use mathlib.Core.Logic.{_⊎_}
+use mathlib.Core.Logic.{_⊎_, ⊎-elim}
 use Prim.Native.Nat.{ℕ, zero, suc, _+_, _<_, _≤_}
 use native.Mathlib.Omega.{arith}
-use lib.ListN.{length, replicate, length-append, replicate-append-replicate}
-use lib.Dec.{leb, eqb}
-use borrow.Author.Tests.{leb-true, leb-false, eqb-true, eqb-false}
+use lib.ListN.{length, getD, replicate, length-append, replicate-append-replicate}
+use lib.Seq.{getD-at}
+use lib.Dec.{eqb}
+use borrow.Author.Tests.{eqb-true, eqb-false}
+use Rattle.cellset.proofs.Bits.{le-or-lt}
 use Rattle.program.proofs.Tests.{bool-cases}
 use Rattle.journal.specs.declared.Commit.{Commit}
 use Rattle.journal.specs.Format.{Checkpoint, image}
@@ -75,23 +77,29 @@ reaches s q t m e =
     let z = image-end s in
     let g : q ++ replicate m 0xFF ≡ z .front ++ 0x5A ∷ t = e ∙ ap (λ (l : List ℕ). l ++ t) (z .bytes) ∙ append-assoc (z .front) (0x5A ∷ []) t in
     let n = ap length (z .bytes) ∙ length-append (z .front) (0x5A ∷ []) in
-    bool-cases (leb (length (image s)) (length q))
-    (λ y. leb-true _ _ y)
-    (λ y.
-    let l : length q < length (image s) = leb-false _ _ y in
+    ⊎-elim
+    (λ l. l)
+    (λ (l : length q < length (image s)).
     let r = nested q (z .front) (replicate m 0xFF) (0x5A ∷ t) g (omega arith) in
     absurd (no-end m (r .0) t (r .2)))
+    (le-or-lt (length (image s)) (length q))
+
+-- a whole checkpoint at the front of bytes and FF bytes is one of the bytes alone
+pub whole-within : {F : Facts} {b : Commit} (q : List ℕ) (m : ℕ) → Whole F b (q ++ replicate m 0xFF) → Whole F b q
+whole-within q m w =
+    let n = nested (image (w .save)) q (w .rest) (replicate m 0xFF) (sym (w .bytes)) (reaches (w .save) q (w .rest) m (w .bytes)) in
+    record { save = w .save; sound = w .sound; rest = n .0; bytes = n .1 }
 
 -- a part and FF bytes after it begin with no whole checkpoint, of this program or another
 pub never-whole : {F F′ : Facts} {b b′ : Commit} (q : List ℕ) (m : ℕ) → Part F b q → ¬ Whole F′ b′ (q ++ replicate m 0xFF)
 never-whole q m p w =
-    let i = image (w .save) in
-    let n = nested i q (w .rest) (replicate m 0xFF) (sym (w .bytes)) (reaches (w .save) q (w .rest) m (w .bytes)) in
-    let e = ap (λ (l : List ℕ). l ++ p .more) (n .1) ∙ append-assoc i (n .0) (p .more) in
-    let g : image (p .save) ++ [] ≡ i ++ (n .0 ++ p .more) = append-nil (image (p .save)) ∙ p .bytes ∙ e in
-    let z : [] ≡ n .0 ++ p .more = unique (p .save) (w .save) [] (n .0 ++ p .more) (p .sound) (w .sound) g .1 in
+    let v = whole-within q m w in
+    let i = image (v .save) in
+    let e = ap (λ (l : List ℕ). l ++ p .more) (v .bytes) ∙ append-assoc i (v .rest) (p .more) in
+    let g : image (p .save) ++ [] ≡ i ++ (v .rest ++ p .more) = append-nil (image (p .save)) ∙ p .bytes ∙ e in
+    let z : [] ≡ v .rest ++ p .more = unique (p .save) (v .save) [] (v .rest ++ p .more) (p .sound) (v .sound) g .1 in
     let h = p .short in
-    omega (arith, ap length z, length-append (n .0) (p .more))
+    omega (arith, ap length z, length-append (v .rest) (p .more))
 
 -- nor do FF bytes alone
 pub erased-not-whole : {F : Facts} {b : Commit} (m : ℕ) → ¬ Whole F b (replicate m 0xFF)
@@ -116,9 +124,11 @@ pub record Trim (q : List ℕ) : Type 0 where
 pub trimmed-nil : Trimmed []
 trimmed-nil l e = concat-ne-nil 0xFF l (sym e)
 
-trimmed-one : (x : ℕ) → ¬ (x ≡ 0xFF) → Trimmed (x ∷ [])
-trimmed-one x h [] e = h (head-eq-of-cons-eq e)
-trimmed-one x h (y ∷ l) e = trimmed-nil l (tail-eq-of-cons-eq e)
+-- bytes that end in another byte do not end in FF
+pub trimmed-snoc : (l : List ℕ) (x : ℕ) → ¬ (x ≡ 0xFF) → Trimmed (l ++ (x ∷ []))
+trimmed-snoc l x h k e =
+    let n : length l ≡ length k = omega (arith, ap length e, length-append l (x ∷ []), length-append k (0xFF ∷ [])) in
+    h (sym (getD-at l x [] 0 (length l) refl) ∙ ap (λ (m : List ℕ). getD m (length l) 0) e ∙ getD-at k 0xFF [] 0 (length l) (sym n))
 
 trimmed-cons : (x y : ℕ) (l : List ℕ) → Trimmed (y ∷ l) → Trimmed (x ∷ y ∷ l)
 trimmed-cons x y l h [] e = cons-ne-nil _ _ (tail-eq-of-cons-eq e)
@@ -132,7 +142,7 @@ trim (x ∷ q) = go (trim q .kept) (trim q .cut) (trim q .bytes) (trim q .trimme
     go [] n e h =
         bool-cases (eqb x 0xFF)
         (λ t. record { kept = []; cut = suc n; bytes = ap₂ {A = ℕ} (λ i l. i ∷ l) (eqb-true _ _ t) e; trimmed = trimmed-nil })
-        (λ t. record { kept = x ∷ []; cut = n; bytes = ap (λ (l : List ℕ). x ∷ l) e; trimmed = trimmed-one x (eqb-false _ _ t) })
+        (λ t. record { kept = x ∷ []; cut = n; bytes = ap (λ (l : List ℕ). x ∷ l) e; trimmed = trimmed-snoc [] x (eqb-false _ _ t) })
     go (y ∷ k) n e h = record { kept = x ∷ y ∷ k; cut = n; bytes = ap (λ (l : List ℕ). x ∷ l) e; trimmed = trimmed-cons x y k h }
 
 -- a part without them is a part still

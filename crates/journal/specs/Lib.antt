@@ -1,2 +1,5 @@
 pub mod Format
 pub mod Reading
+pub mod Answer
+pub mod Parts
+pub mod Writing

@@ -1,9 +1,25 @@
-// The journal (document 01: the chip): the checkpoints (saves) that stand on it, and how it is read. So
-// far definitions and theorems over bytes: the bytes of a checkpoint, specs/Format.antt, and what a
-// journal holds, whole, torn or damaged, specs/Reading.antt. Proved: decoding is unique, a torn
-// checkpoint is never taken for a whole one, and storing and erasing in order leave a journal that reads
-// back as the checkpoints whose final byte was stored (proofs/Decoding.antt, Torn.antt, Back.antt,
-// Storing.antt). The code that reads and writes is to come.
+// The journal (document 01: the chip): the checkpoints (saves) that stand on it, how it is read and
+// what is stored on it. `scan` reads any bytes, and its answer is the one reading that they have:
+// specs/Reading.antt says what a journal holds, whole, torn or damaged, specs/Answer.antt what is
+// answered. The module writing has the bytes of a checkpoint, specs/Writing.antt. Proved over bytes
+// alone: decoding is unique, a torn checkpoint is never taken for a whole one, and storing and
+// erasing in order leave a journal that reads back as the checkpoints whose final byte was stored
+// (proofs/Decoding.antt, Torn.antt, Back.antt, Storing.antt).
+mod fields;
+mod records;
+mod tail;
+pub mod writing;
+
+use fields::commit_at;
+use records::records_end;
+use records::restore;
+use tail::Tail;
+use tail::tail_at;
+ghost use mathlib.Core.Path.{_≡_};
+ghost use Prim.Native.Nat.{_≤_};
+ghost use lib.ListN.{length};
+ghost use Rattle.journal.specs.Answer.{factsIn, Blank, Scans};
+ghost use Rattle.journal.specs.Parts.{Content, WalkIs};
 
 // What a checkpoint ends with (document 01: its MARK): the offset after the CHECKPOINT, that of the last
 // EXCLUDE executed or 0, the readings taken and the outputs given.
@@ -12,4 +28,96 @@ pub struct Commit {
     pub exclude: u16,
     pub readings: u32,
     pub outputs: u32,
+}
+
+// What a journal reads as: damaged; or where its whole checkpoints end, how many torn bytes follow, and the
+// last commit, or offset 1 and zeros if there is none.
+pub enum Scanned {
+    Damaged,
+    Found {
+        end: usize,
+        torn: usize,
+        last: Commit,
+    },
+}
+
+// The answer, and each cell's last saved value, or 0; all 0 where the journal is damaged.
+pub struct Contents {
+    pub answer: Scanned,
+    pub values: [u32; 256],
+}
+
+// How many bytes remain without the FF bytes at the end.
+fn content(l: &[u8]) -> usize
+    ensures { λ r. ⌜ Content (now (l .entry)) r ⌝ }
+{
+    let mut r = l.len();
+    while 0 < r {
+        if l[r - 1] != 0xff {
+            return r;
+        }
+        r -= 1;
+    }
+    r
+}
+
+fn damaged() -> Contents
+    ensures { λ r. ⌜ (r .answer ≡ Scanned.Damaged) × Blank (r .values) ⌝ }
+{
+    Contents {
+        answer: Scanned::Damaged,
+        values: [0u32; 256],
+    }
+}
+
+fn found(end: usize, torn: usize, last: Commit, values: [u32; 256]) -> Contents
+    ensures { λ r. ⌜ r ≡ record { answer = Scanned.Found end torn last; values = values } ⌝ }
+{
+    Contents {
+        answer: Scanned::Found { end, torn, last },
+        values,
+    }
+}
+
+// Takes up checkpoint after checkpoint. Each has a stamp of its own, so that the cells of one are told
+// from those of the one before without clearing a table.
+fn walk(l: &[u8], n: usize, table: &[u8; 2048]) -> Contents
+    requires { ⌜ (length (now l) ≤ 65536) × (n ≤ 256) ⌝ }
+    ensures { λ r. ⌜ WalkIs (factsIn n (now (table .entry))) (now (l .entry)) (r .answer) (r .values) ⌝ }
+{
+    let mut seen = [0u32; 256];
+    let mut values = [0u32; 256];
+    let mut at: usize = 0;
+    let mut last = Commit {
+        place: 1,
+        exclude: 0,
+        readings: 0,
+        outputs: 0,
+    };
+    while at < l.len() {
+        let i = records_end(l, at, n, &mut seen);
+        match tail_at(l, i, n, &seen, at as u32 + 1, table, last) {
+            Tail::Whole => {
+                restore(l, at, i, &mut values);
+                last = commit_at(l, i + 1);
+                at = i + 14;
+            }
+            Tail::Cut => {
+                return found(at, l.len() - at, last, values);
+            }
+            Tail::Bad => {
+                return damaged();
+            }
+        }
+    }
+    found(at, 0, last, values)
+}
+
+// Reads a journal, for a program of n cells and its table of places.
+pub fn scan(journal: &[u8], n: usize, table: &[u8; 2048]) -> Contents
+    requires { ⌜ (length (now journal) ≤ 65536) × (n ≤ 256) ⌝ }
+    ensures { λ r. ⌜ Scans (factsIn n (now (table .entry))) (now (journal .entry)) (r .answer) (r .values) ⌝ }
+{
+    let t = content(journal);
+    walk(&journal[..t], n, table)
 }

@@ -1,7 +1,9 @@
-// Runs document 01's rows about the check and the sets and prints what each gives: for the check a line
-// to a row, with the number of the answer and, where the program passes, its cells, commands and
-// EXCLUDEs; for the sets the listing, below the row's name. Document 001's programs are those of
-// examples/.
+// Runs document 01's rows about the check, the sets and the chip and prints what each gives: for the check
+// a line to a row, with the number of the answer and, where the program passes, its cells, commands
+// and EXCLUDEs; for the sets the listing, below the row's name; for the chip what the module
+// journals says. Document 001's programs are those of examples/.
+mod journals;
+
 use libc::STDOUT_FILENO;
 use program::Checked;
 
@@ -138,4 +140,5 @@ fn main() {
     cell();
     sieve();
     contour();
+    journals::rows();
 }

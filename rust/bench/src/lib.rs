@@ -1,4 +1,5 @@
 //! What the benchmark times the verified library against, and on which plans.
 
 pub mod baseline;
+pub mod journals;
 pub mod plans;

@@ -1,5 +1,5 @@
 //! Times the verified library against the baseline, in turns: check, and the whole of analyse, on
-//! each plan. A line gives the microseconds of a call of each, the least of many turns, and the
+//! each plan, and reading a chip. A line gives the microseconds of a call of each, the least of many turns, and the
 //! ratio of the two. With `--bar X` a ratio above X is a failure:
 //! `cargo run --release -p bench -- --bar 2`.
 
@@ -9,6 +9,7 @@ use std::process::ExitCode;
 use std::time::Instant;
 
 use bench::baseline::{self, DEAD_WORDS, SET_WORDS};
+use bench::journals::{self, chips, PLAN};
 use bench::plans::plans;
 
 /// For how many microseconds the two are timed on a plan, and how many a turn takes at least.
@@ -25,13 +26,19 @@ fn main() -> ExitCode {
     for (name, plan) in &plans {
         assert_same(name, plan);
     }
-    println!("{:24}   library  baseline   ratio", "microseconds");
+    println!("{:26}   library  baseline   ratio", "microseconds");
     let mut passes = true;
     for (name, plan) in &plans {
         passes &= report("check", name, race_check(plan), bar);
     }
     for (name, plan) in &plans {
         passes &= report("analyse", name, race_analyse(plan), bar);
+    }
+    for (name, chip) in &chips() {
+        let times = race_read(chip);
+        passes &= report("read", name, times, bar);
+        let [library, baseline] = times.map(|micros| chip.len() as f64 / micros);
+        println!("{:26}{library:10.0}{baseline:10.0}", "  megabytes a second");
     }
     match passes {
         true => ExitCode::SUCCESS,
@@ -105,6 +112,30 @@ fn race_analyse(plan: &[u8]) -> [f64; 2] {
     )
 }
 
+/// Asserts that library and baseline read the same, and races them on the chip.
+fn race_read(chip: &[u8]) -> [f64; 2] {
+    let held = journals::read(PLAN, chip).expect("the chip is sound");
+    let last = held.last;
+    let numbers = [
+        held.end as u32,
+        held.torn as u32,
+        u32::from(last.place),
+        u32::from(last.exclude),
+        last.readings,
+        last.outputs,
+        held.values[7],
+    ];
+    assert_eq!(differential::probe(PLAN, chip, 7, [0; 7]), (0, numbers));
+    race(
+        || {
+            black_box(differential::probe(PLAN, black_box(chip), 7, [0; 7]));
+        },
+        || {
+            let _ = black_box(journals::read(PLAN, black_box(chip)));
+        },
+    )
+}
+
 /// The least microseconds of a call of each.
 fn race(mut library: impl FnMut(), mut baseline: impl FnMut()) -> [f64; 2] {
     let library_calls = calls_in_a_turn(&mut library);
@@ -144,6 +175,6 @@ fn report(job: &str, name: &str, [library, baseline]: [f64; 2], bar: f64) -> boo
     let ratio = library / baseline;
     let passes = ratio <= bar;
     let mark = if passes { "" } else { "  above the bar" };
-    println!("{job:8}{name:16}{library:10.2}{baseline:10.2}{ratio:8.2}{mark}");
+    println!("{job:8}{name:18}{library:10.2}{baseline:10.2}{ratio:8.2}{mark}");
     passes
 }

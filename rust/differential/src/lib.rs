@@ -3,6 +3,7 @@
 
 pub mod examples;
 pub mod features;
+pub mod journals;
 pub mod plans;
 pub mod rng;
 
@@ -25,6 +26,24 @@ extern "C" {
         dead_len: usize,
         sets: *mut u8,
         sets_len: usize,
+    ) -> u32;
+}
+
+// As in crates/probe.
+extern "C" {
+    fn probe_chip(
+        plan: *const u8,
+        plan_len: usize,
+        chip: *const u8,
+        chip_len: usize,
+        cell: u8,
+        end: *mut u32,
+        torn: *mut u32,
+        place: *mut u32,
+        exclude: *mut u32,
+        readings: *mut u32,
+        outputs: *mut u32,
+        value: *mut u32,
     ) -> u32;
 }
 
@@ -65,4 +84,33 @@ pub fn analyse_null(plan: Option<&[u8]>, dead: Option<&mut [u8]>, sets: Option<&
     // SAFETY: a slice's pointer and length go together, and the interface takes a null pointer with
     // length 0 for an empty slice. A slice lent by `&mut` overlaps no other.
     unsafe { pitskelo_analyse(plan, plan_len, dead, dead_len, sets, sets_len) }
+}
+
+/// The probe's numbers: the end of the whole saves, the torn bytes, the last mark's place, EXCLUDE,
+/// readings and outputs, and the value of the cell.
+pub type Probed = [u32; 7];
+
+/// Calls the probe of the chip reader, for one cell's value. `before` is what the numbers hold when it is
+/// called.
+pub fn probe(plan: &[u8], chip: &[u8], cell: u8, before: Probed) -> (u32, Probed) {
+    let [mut end, mut torn, mut place, mut exclude, mut readings, mut outputs, mut value] = before;
+    // SAFETY: a slice's pointer and length go together.
+    let result = unsafe {
+        probe_chip(
+            plan.as_ptr(),
+            plan.len(),
+            chip.as_ptr(),
+            chip.len(),
+            cell,
+            &mut end,
+            &mut torn,
+            &mut place,
+            &mut exclude,
+            &mut readings,
+            &mut outputs,
+            &mut value,
+        )
+    };
+    let after = [end, torn, place, exclude, readings, outputs, value];
+    (result, after)
 }

@@ -4,6 +4,7 @@
 
 pub mod analysis;
 pub mod check;
+pub mod journal;
 pub mod listing;
 pub mod program;
 pub mod refusal;

@@ -16,3 +16,7 @@ pub const TOO_MANY: u32 = 6;
 pub const BAD_LAST_INSTRUCTION: u32 = 7;
 /// A jump's target isn't the offset of a instruction.
 pub const BAD_TARGET: u32 = 8;
+/// The chip is over 65,536 bytes.
+pub const CHIP_LENGTH: u32 = 11;
+/// The chip is damaged.
+pub const CHIP_DAMAGED: u32 = 12;

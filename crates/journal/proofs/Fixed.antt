@@ -1,0 +1,107 @@
+-- Laws of the answer of `scan`. A journal has one answer (`scan-fixed`): damaged where the chip is damaged (`damaged-found`), and what the engine leaves reads
+-- back as exactly its checkpoints (`shape-found`), an erased chip as none (`erased-found`). A program's own table holds the program's facts (`facts-same`).
+-- Assumes nothing.
+use mathlib.Core.Path.{_≡_, refl, sym, _∙_, ap, subst}
+use mathlib.Core.Bool.{Bool, true, false, cond}
+use mathlib.Core.List.{List}
+use mathlib.Core.Logic.{⊎-elim}
+use Prim.Native.Nat.{ℕ, _+_, _≤_, _<_}
+use native.Mathlib.Omega.{arith}
+use lib.ListN.{length, getD, replicate, length-append, List·getD-eq-default}
+use lib.Seq.{ext-getD}
+use lib.Dec.{ltb}
+use borrow.Author.Tests.{lt-ltb}
+use Rattle.cellset.proofs.Bits.{le-or-lt}
+use Rattle.instruction.specs.Bytes.{cellsOf}
+use Rattle.program.specs.declared.places.Place.{Place}
+use Rattle.program.specs.Places.{isExclude, excludeNumber, entryAt, readPlace, afterCheckpoint, Places}
+use Rattle.program.proofs.PlaceLaws.{place-read}
+use Rattle.journal.specs.declared.Commit.{Commit}
+use Rattle.journal.specs.declared.Scanned.{Scanned}
+use Rattle.journal.specs.declared.Scanned.the-variants as scanned
+use Rattle.journal.specs.Format.{Checkpoint, images}
+use Rattle.journal.specs.Reading.{Facts, factsOf, first, lastOf, Torn, Damaged, savedValue}
+use Rattle.journal.specs.Answer.{factsIn, Taken, Blank, Scans}
+use Rattle.journal.proofs.Back.{Shape, erased-shape, one-reading, shape-reads, not-damaged}
+
+-- ---- the facts of a program
+
+-- the table has 0 where no EXCLUDE stands, and only there
+marked : (b : Bool) (n : ℕ) → ltb 0 (cond b (n + 1) 0) ≡ b
+marked true n = lt-ltb 0 (n + 1) (omega arith)
+marked false n = refl
+
+-- the facts that a program's table of places holds are the program's
+pub facts-same : (p table : List ℕ) → Places p table → factsIn (cellsOf p) table ≡ factsOf p
+facts-same p table h = λ i. record { cells = cellsOf p; place = λ t. place t i; exclude = λ t. exclude t i }
+  where
+    place : (t : ℕ) → readPlace (entryAt table t) .after ≡ afterCheckpoint p t
+    place t = ap (λ (x : Place). x .after) (place-read p table h t)
+
+    exclude : (t : ℕ) → ltb 0 (readPlace (entryAt table t) .exclude) ≡ isExclude p t
+    exclude t = ap (λ (x : Place). ltb 0 (x .exclude)) (place-read p table h t) ∙ marked (isExclude p t) (excludeNumber p t)
+
+-- ---- one answer
+
+-- a damaged chip has no reading that is accepted
+apart : {F : Facts} {chip : List ℕ} {end torn : ℕ} {last : Commit} {values : List ℕ} → Damaged F chip → ¬ Taken F chip end torn last values
+apart {F} d t =
+    let o = one-reading (t .reading) (d .reading) in
+    let g = subst (λ (js : List Checkpoint). Torn F (lastOf first js) (t .rest)) (o .0) (t .accepted) in
+    d .refused (subst (λ (q : List ℕ). Torn F (lastOf first (d .saves)) q) (o .1) g)
+
+-- a journal's answer and its values are fixed
+pub scan-fixed : (F : Facts) (chip : List ℕ) (a a′ : Scanned) (v v′ : List ℕ) → Scans F chip a v → Scans F chip a′ v′ → (a ≡ a′) × (v ≡ v′)
+scan-fixed F chip scanned.Damaged scanned.Damaged v v′ x y =
+    (refl, ext-getD 0 v v′ (x .1 .cells ∙ sym (y .1 .cells)) (λ c _. x .1 .values-are c ∙ sym (y .1 .values-are c)))
+scan-fixed F chip scanned.Damaged (scanned.Found end torn last) v v′ x y = absurd (apart (x .0) y)
+scan-fixed F chip (scanned.Found end torn last) scanned.Damaged v v′ x y = absurd (apart (y .0) x)
+scan-fixed F chip (scanned.Found end torn last) (scanned.Found end′ torn′ last′) v v′ x y =
+    let o = one-reading (x .reading) (y .reading) in
+    let e : end ≡ end′ = x .end-is ∙ ap (λ (js : List Checkpoint). length (images js)) (o .0) ∙ sym (y .end-is) in
+    let t : torn ≡ torn′ = x .torn-is ∙ ap length (o .1) ∙ sym (y .torn-is) in
+    let l : last ≡ last′ = x .last-is ∙ ap (lastOf first) (o .0) ∙ sym (y .last-is) in (
+      (λ i. scanned.Found (e i) (t i) (l i)),
+      ext-getD 0 v v′ (x .cells ∙ sym (y .cells)) λ c h.
+          let k : c < 256 = omega (arith, h, x .cells) in
+          x .values-are c k ∙ ap (λ (js : List Checkpoint). savedValue c js 0) (o .0) ∙ sym (y .values-are c k),
+    )
+
+-- a damaged chip is answered so; that no other is, is `Scans` itself
+pub damaged-found : {F : Facts} {chip : List ℕ} (a : Scanned) (v : List ℕ) → Damaged F chip → Scans F chip a v → a ≡ scanned.Damaged
+damaged-found scanned.Damaged v d x = refl
+damaged-found (scanned.Found end torn last) v d x = absurd (apart d x)
+
+-- ---- what the engine leaves
+
+-- whole checkpoints, then nothing or a part of one, then FF are answered with those checkpoints, and with no more torn bytes than there are
+pub shape-found : {F : Facts} {chip : List ℕ} {js : List Checkpoint} {q : List ℕ} (a : Scanned) (v : List ℕ) → Shape F chip js q → Scans F chip a v
+    → (k : ℕ) × (k ≤ length q) × (a ≡ scanned.Found (length (images js)) k (lastOf first js)) × ((c : ℕ) → c < 256 → getD v c 0 ≡ savedValue c js 0)
+shape-found scanned.Damaged v s x = absurd (not-damaged s (x .0))
+shape-found {js = js} (scanned.Found end torn last) v s x =
+    let r = shape-reads s in
+    let o = one-reading (x .reading) (r .reading) in
+    let e : end ≡ length (images js) = x .end-is ∙ ap (λ (l : List Checkpoint). length (images l)) (o .0) in
+    let l : last ≡ lastOf first js = x .last-is ∙ ap (lastOf first) (o .0) in
+    let n = length-append (r .left) (replicate (r .cut) 0xFF) in (
+      torn,
+      omega (arith, x .torn-is, ap length (o .1), ap length (r .bytes), n),
+      (λ i. scanned.Found (e i) torn (l i)),
+      (λ c h. x .values-are c h ∙ ap (λ (l : List Checkpoint). savedValue c l 0) (o .0)),
+    )
+
+-- an answer has 256 values
+value-count : (F : Facts) (chip : List ℕ) (a : Scanned) (v : List ℕ) → Scans F chip a v → length v ≡ 256
+value-count F chip scanned.Damaged v x = x .1 .cells
+value-count F chip (scanned.Found end torn last) v x = x .cells
+
+-- an erased chip of any length has no checkpoint
+pub erased-found : (F : Facts) (n : ℕ) (a : Scanned) (v : List ℕ) → Scans F (replicate n 0xFF) a v → (a ≡ scanned.Found 0 0 first) × Blank v
+unfolding images lastOf savedValue
+erased-found F n a v x =
+    let f = shape-found a v (erased-shape n) x in
+    let z : f .0 ≡ 0 = omega (arith, f .1) in
+    let size = value-count F (replicate n 0xFF) a v x in (
+      f .2 ∙ ap (λ (k : ℕ). scanned.Found 0 k first) z,
+      record { cells = size; values-are = λ c. ⊎-elim (λ (h : 256 ≤ c). List·getD-eq-default v 0 (omega arith)) (f .3 c) (le-or-lt 256 c) },
+    )

@@ -1,0 +1,12 @@
+-- `journal::damaged` meets its contract: an array of zeros is blank.
+-- Assumes nothing.
+use mathlib.Core.Path.{refl}
+use Rattle.journal.proofs.Walking.{blank}
+use Rattle.journal.proofs.damaged.Statement.{statement}
+use Rattle.journal.proofs.damaged.Tie as tie
+
+returns : tie.Need-returns
+returns c = (refl, blank 256 refl)
+
+pub damaged-spec : {M : Type 1} → statement M
+damaged-spec = tie.close (tie.spec returns)

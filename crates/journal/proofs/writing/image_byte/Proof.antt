@@ -1,0 +1,68 @@
+-- `journal::writing::image_byte` meets its contract: the byte is one of a record, or one of the commit.
+-- Assumes nothing.
+use borrow.Author.Needs.{needs}
+use Rattle.journal.proofs.Written.{image-record, image-commit}
+use Rattle.journal.proofs.writing.image_byte.Statement.{statement}
+use Rattle.journal.proofs.writing.image_byte.Tie as tie
+
+count-requires : tie.Need-count-requires
+count-requires c κs = search needs
+
+cast-records : tie.Need-cast-records
+cast-records c = search needs
+
+mul-records : tie.Need-mul-records
+mul-records c = search needs
+
+commit-byte-requires : tie.Need-commit-byte-requires
+commit-byte-requires c κs = search needs
+
+returns : tie.Need-returns
+returns c =
+    let at-count = c .before .before in
+    let s = at-count .before .args in
+    image-commit (s .s .words) (s .values .now) (s .c) (at-count .count .result) (s .k) (c .commit-byte .result)
+    (at-count .count .ensures) (c .before .if1 .taken) (c .commit-byte .ensures)
+
+cast-nth : tie.Need-cast-nth
+cast-nth c = search needs
+
+nth-requires : tie.Need-nth-requires
+nth-requires c κs = search needs
+
+cast-record-byte : tie.Need-cast-record-byte
+cast-record-byte c = search needs
+
+mul-record-byte : tie.Need-mul-record-byte
+mul-record-byte c = search needs
+
+element-copy-out-record-byte : tie.Need-element-copy-out-record-byte
+element-copy-out-record-byte c = search needs
+
+record-byte-requires : tie.Need-record-byte-requires
+record-byte-requires c κs = search needs
+
+returns-2 : tie.Need-returns-2
+returns-2 c =
+    let at-nth = c .before .before in
+    let at-count = at-nth .before .before in
+    let s = at-count .before .args in
+    image-record (s .s .words) (s .values .now) (s .c) (at-count .count .result) (s .k) (c .record-byte .result)
+    (at-count .count .ensures) (at-nth .nth .result) (at-nth .before .if1 .left) (at-nth .nth .ensures) (c .record-byte .ensures)
+
+pub image-byte-spec : {M : Type 1} → statement M
+image-byte-spec =
+    tie.close
+    (tie.spec
+    count-requires
+    cast-records
+    mul-records
+    commit-byte-requires
+    returns
+    cast-nth
+    nth-requires
+    cast-record-byte
+    mul-record-byte
+    element-copy-out-record-byte
+    record-byte-requires
+    returns-2)

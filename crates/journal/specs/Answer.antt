@@ -1,0 +1,48 @@
+-- What `scan` answers: document 01, "Recovery reads saves from byte 0."
+-- Assumes nothing.
+use Prim.Native.Nat.{ℕ, _<_}
+use mathlib.Core.Path.{_≡_}
+use mathlib.Core.List.{List, [], _∷_}
+use lib.ListN.{length, getD}
+use lib.Dec.{ltb}
+use Rattle.program.specs.Check.{Answer}
+use Rattle.program.specs.Places.{entryAt, readPlace}
+use Rattle.journal.specs.declared.Commit.{Commit}
+use Rattle.journal.specs.declared.Scanned.{Scanned}
+use Rattle.journal.specs.declared.Scanned.the-variants.{Damaged, Found}
+use Rattle.journal.specs.Format.{Checkpoint, images}
+use Rattle.journal.specs.Reading
+use Rattle.journal.specs.Reading.{Facts, first, Reading, Torn, lastOf, savedValue}
+
+-- the facts that a table of places holds, for a program of n cells; of a program's own table they are `factsOf` it (`facts-same` of proofs/Fixed.antt)
+abbrev pub factsIn : ℕ → List ℕ → Facts
+factsIn n table = record { cells = n; place = λ t. readPlace (entryAt table t) .after; exclude = λ t. ltb 0 (readPlace (entryAt table t) .exclude) }
+
+-- the chip's reading has a remainder that recovery accepts: where its whole checkpoints end, how many torn bytes follow, the last commit ("or offset 1 and
+-- zeros") and "each cell's last saved value in whole saves, or 0"
+pub record Taken (F : Facts) (chip : List ℕ) (end torn : ℕ) (last : Commit) (values : List ℕ) : Type 0 where
+  pub saves : List Checkpoint
+  pub rest : List ℕ
+  pub reading : Reading F chip saves rest
+  pub accepted : Torn F (lastOf first saves) rest
+  pub end-is : end ≡ length (images saves)
+  pub torn-is : torn ≡ length rest
+  pub last-is : last ≡ lastOf first saves
+  pub cells : length values ≡ 256
+  pub values-are : (c : ℕ) → c < 256 → getD values c 0 ≡ savedValue c saves 0
+
+-- all 0: what a damaged chip gives
+pub record Blank (values : List ℕ) : Type 0 where
+  pub cells : length values ≡ 256
+  pub values-are : (c : ℕ) → getD values c 0 ≡ 0
+
+-- the answer and the values are the chip's
+abbrev pub Scans : Facts → List ℕ → Scanned → List ℕ → Type 0
+Scans F chip Damaged values = Reading.Damaged F chip × Blank values
+Scans F chip (Found end torn last) values = Taken F chip end torn last values
+
+-- 01's number for an answer, 0 where it is accepted, and its values: "12, chip damaged"
+abbrev pub answerOf : Scanned → Answer
+answerOf Damaged = record { number = 12; values = [] }
+answerOf (Found end torn last) =
+    record { number = 0; values = end ∷ torn ∷ last .place ∷ last .exclude ∷ last .readings ∷ last .outputs ∷ [] }

@@ -1,0 +1,117 @@
+// The fields of a commit, whole or cut: whether the bytes that are there begin those of a sound one. Past the
+// end a byte counts as FF, which makes a cut count the largest that it begins.
+use crate::Commit;
+use program::places::place_at;
+use word::from_bytes;
+use word::load16;
+use word::load32;
+ghost use mathlib.Core.Path.{_≡_};
+ghost use Prim.Native.Nat.{ℕ, _+_, _≤_, _<_};
+ghost use mathlib.Core.Bool.{true};
+ghost use lib.ListN.{length, drop};
+ghost use Rattle.journal.specs.Answer.{factsIn};
+ghost use Rattle.journal.specs.Parts.{Decides, byteAt, offsetIn, Some, Number, Fields, commitAt};
+
+pub fn byte_at(l: &[u8], i: usize) -> u8
+    ensures { λ r. ⌜ r ≡ byteAt (now (l .entry)) i ⌝ }
+{
+    if i < l.len() { l[i] } else { 0xff }
+}
+
+// Whether a commit may name the offset t, as its last EXCLUDE or as its place.
+fn offset_is(table: &[u8; 2048], excludes: bool, t: usize) -> bool
+    ensures { λ r. ⌜ ((n : ℕ) → r ≡ offsetIn (factsIn n (now (table .entry))) excludes t) ⌝ }
+{
+    let place = place_at(table, t);
+    if excludes {
+        if t == 0 {
+            return true;
+        }
+        return 0 < place.exclude;
+    }
+    place.after
+}
+
+// Whether there is such an offset among low, low + step, low + 2 × step and so on.
+pub fn some_offset(table: &[u8; 2048], excludes: bool, low: usize, step: usize) -> bool
+    requires { ⌜ (low < step) × (step ≤ 256) ⌝ }
+    ensures { λ r. ⌜ ((n : ℕ) → Decides (Some (factsIn n (now (table .entry))) excludes low step) r) ⌝ }
+{
+    let mut t = low;
+    while t < 2048 {
+        if offset_is(table, excludes, t) {
+            return true;
+        }
+        t += step;
+    }
+    false
+}
+
+// Whether the bytes at i begin such an offset.
+fn offset_begins(l: &[u8], i: usize, table: &[u8; 2048], excludes: bool) -> bool
+    requires { ⌜ i ≤ 100000 ⌝ }
+    ensures { λ r. ⌜ ((n : ℕ) → Decides (Number (λ t. offsetIn (factsIn n (now (table .entry))) excludes t ≡ true) 2 (drop i (now (l .entry)))) r) ⌝ }
+{
+    if l.len() <= i {
+        return some_offset(table, excludes, 0, 1);
+    }
+    if l.len() < i + 2 {
+        return some_offset(table, excludes, l[i] as usize, 256);
+    }
+    offset_is(table, excludes, load16(l, i) as usize)
+}
+
+// Whether the bytes at i begin a count that is not below `least`.
+fn count_begins(l: &[u8], i: usize, least: u32) -> bool
+    requires { ⌜ i ≤ 100000 ⌝ }
+    ensures { λ r. ⌜ Decides (Number (λ x. least ≤ x) 4 (drop i (now (l .entry)))) r ⌝ }
+{
+    if i + 4 <= l.len() {
+        return least <= load32(l, i);
+    }
+    let b0 = byte_at(l, i);
+    let b1 = byte_at(l, i + 1);
+    let b2 = byte_at(l, i + 2);
+    let b3 = byte_at(l, i + 3);
+    least <= from_bytes(b0, b1, b2, b3)
+}
+
+// Whether the bytes at i begin the fields and the last byte of a commit that is sound after `last`.
+pub fn fields_begin(l: &[u8], i: usize, table: &[u8; 2048], last: Commit) -> bool
+    requires { ⌜ i ≤ 90000 ⌝ }
+    ensures { λ r. ⌜ ((n : ℕ) → Decides (Fields (factsIn n (now (table .entry))) last (drop i (now (l .entry)))) r) ⌝ }
+{
+    if !offset_begins(l, i, table, false) {
+        return false;
+    }
+    if !offset_begins(l, i + 2, table, true) {
+        return false;
+    }
+    if !count_begins(l, i + 4, last.readings) {
+        return false;
+    }
+    if !count_begins(l, i + 8, last.outputs) {
+        return false;
+    }
+    if l.len() <= i + 12 {
+        return true;
+    }
+    l[i + 12] == 0x5a
+}
+
+// The commit whose fields stand at i.
+pub fn commit_at(l: &[u8], i: usize) -> Commit
+    requires { ⌜ i + 12 ≤ length (now l) ⌝ }
+    ensures { λ r. ⌜ r ≡ commitAt (now (l .entry)) i ⌝ }
+{
+    let place = load16(l, i);
+    let exclude = load16(l, i + 2);
+    let readings = load32(l, i + 4);
+    let outputs = load32(l, i + 8);
+    Commit {
+        place,
+        exclude,
+        readings,
+        outputs,
+    }
+}

@@ -1,0 +1,136 @@
+// Rows about the chip reader. A row gives the number of the answer and, where the chip is accepted, the end of
+// the whole saves, the number of torn bytes, the last mark's place, EXCLUDE, readings and outputs, and
+// the values of cells 0 to 2.
+use libc::STDOUT_FILENO;
+
+fn number(n: u64) {
+    io::write_all(STDOUT_FILENO, b" ");
+    io::print_decimal(STDOUT_FILENO, n);
+}
+
+// A cell's value.
+fn value(n: u32) {
+    number(n as u64);
+}
+
+// The rest of a row, behind its name.
+fn answer(plan: &[u8], chip: &[u8]) {
+    let found = probe::probe(plan, chip);
+    io::write_all(STDOUT_FILENO, b":");
+    number(found.number as u64);
+    if found.number == 0 {
+        number(found.end as u64);
+        number(found.torn as u64);
+        number(found.last.place as u64);
+        number(found.last.exclude as u64);
+        number(found.last.readings as u64);
+        number(found.last.outputs as u64);
+        value(found.values[0]);
+        value(found.values[1]);
+        value(found.values[2]);
+    }
+    io::write_all(STDOUT_FILENO, b"\n");
+}
+
+fn row(name: &[u8], plan: &[u8], chip: &[u8]) {
+    io::write_all(STDOUT_FILENO, name);
+    answer(plan, chip);
+}
+
+// A row of the small plan that is named by a byte's number.
+fn numbered(name: &[u8], k: usize, chip: &[u8]) {
+    io::write_all(STDOUT_FILENO, name);
+    number(k as u64);
+    answer(
+        b"\x02\x02\x00\x00\x00\x00\x00\x07\x01\x04\x00\x00\x01\x08\x00\x0D\x0E\x09\x07\x00",
+        chip,
+    );
+}
+
+// The small plan's first two saves, stored byte by byte on 48 bytes of chip.
+fn stored() {
+    let saves = b"\xA1\x00\x05\x00\x00\x00\xA2\x11\x00\x0F\x00\x01\x00\x00\x00\x01\x00\x00\x00\x5A\
+                  \xA1\x00\x0C\x00\x00\x00\xA2\x11\x00\x0F\x00\x02\x00\x00\x00\x02\x00\x00\x00\x5A";
+    let mut chip = [0xffu8; 48];
+    let mut k: usize = 0;
+    while k < 40 {
+        numbered(b"stored", k, &chip);
+        chip[k] = saves[k];
+        k += 1;
+    }
+    numbered(b"stored", k, &chip);
+}
+
+// Both saves on 40 bytes of chip, with byte k of the second replaced.
+fn altered(name: &[u8], byte: u8) {
+    let saves = b"\xA1\x00\x05\x00\x00\x00\xA2\x11\x00\x0F\x00\x01\x00\x00\x00\x01\x00\x00\x00\x5A\
+                  \xA1\x00\x0C\x00\x00\x00\xA2\x11\x00\x0F\x00\x02\x00\x00\x00\x02\x00\x00\x00\x5A";
+    let mut chip = *saves;
+    let mut k: usize = 20;
+    while k < 40 {
+        chip[k] = byte;
+        numbered(name, k, &chip);
+        chip[k] = saves[k];
+        k += 1;
+    }
+}
+
+// What begins no sound save, in each of its ways: no CHECKPOINT in the plan; a record after those of all cells; the
+// low byte of no such place; a count that FF cannot lift.
+fn edges() {
+    row(b"no CHECKPOINT, A1", b"\x00\x01", b"\xA1");
+    row(b"no CHECKPOINT, A2", b"\x00\x01", b"\xA2");
+    row(b"no CHECKPOINT, FF", b"\x00\x01", b"\xFF");
+    row(
+        b"all cells, A1",
+        b"\x00\x0E\x01",
+        b"\xA1\x00\x01\x02\x03\x04\xA1",
+    );
+    row(
+        b"all cells, A2",
+        b"\x00\x0E\x01",
+        b"\xA1\x00\x01\x02\x03\x04\xA2",
+    );
+    row(b"low byte of the place", b"\x00\x0E\x01", b"\xA2\x02");
+    row(b"low byte of no place", b"\x00\x0E\x01", b"\xA2\x01");
+    row(
+        b"low byte 0 for no EXCLUDE",
+        b"\x00\x0E\x01",
+        b"\xA2\x02\x00\x00",
+    );
+    row(
+        b"low byte of no EXCLUDE",
+        b"\x00\x0E\x01",
+        b"\xA2\x02\x00\x01",
+    );
+    row(
+        b"a count that FF lifts",
+        b"\x00\x0E\x01",
+        b"\xA2\x02\x00\x00\x00\x00\x01\xFF\xFF\x00\x00\x00\x00\x5A\xA2\x02\x00\x00\x00\x00\x01",
+    );
+    row(
+        b"a count that FF cannot lift",
+        b"\x00\x0E\x01",
+        b"\xA2\x02\x00\x00\x00\x00\x01\xFF\xFF\x00\x00\x00\x00\x5A\xA2\x02\x00\x00\x00\x00\x00",
+    );
+}
+
+pub fn rows() {
+    stored();
+    altered(b"byte 00 at", 0x00);
+    altered(b"byte 03 at", 0x03);
+    altered(b"byte A1 at", 0xa1);
+    altered(b"byte FF at", 0xff);
+    edges();
+    row(b"00, then FF", b"\x00\x0E\x01", b"\x00\xFF\xFF\xFF");
+    row(b"no bytes", b"\x00\x0E\x01", b"");
+    row(b"a refused plan", b"\x00", b"");
+    row(
+        b"a cell twice",
+        b"\x00\x0E\x01",
+        b"\xA1\x00\x01\x00\x00\x00\xA1\x00\x02\x00\x00\x00\xA2\x02\x00\x00\x00\x00\x00\x00\x00\x00\x00\x00\x00\x5A",
+    );
+    let long = [0xffu8; 65537];
+    row(b"65537 bytes of FF", b"\x00\x0E\x01", &long);
+    row(b"65536 bytes of FF", b"\x00\x0E\x01", &long[..65536]);
+}

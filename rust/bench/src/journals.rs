@@ -1,0 +1,209 @@
+//! Reading a chip in plain Rust, as one would write it who wants it fast but simple, and the chips
+//! that are timed.
+
+use reference::journal::{Mark, Save, ERASED, MARK, MARK_END, MAX_CHIP, RECORD};
+use reference::program::{CHECKPOINT, EXCLUDE, FIRST_INSTRUCTION, LENGTHS, MAX_BYTES};
+use reference::refusal::{CHIP_DAMAGED, CHIP_LENGTH};
+
+use crate::baseline::check;
+
+const RECORD_LEN: usize = 6;
+const MARK_LEN: usize = 14;
+
+const AFTER_CHECKPOINT: u8 = 1;
+const AT_EXCLUDE: u8 = 2;
+
+/// What an accepted chip holds: where its whole saves end, how many torn bytes follow, the last
+/// mark, and the value of each cell.
+#[derive(Clone, Debug, PartialEq, Eq)]
+pub struct Held {
+    pub end: usize,
+    pub torn: usize,
+    pub last: Mark,
+    pub values: [u32; 256],
+}
+
+/// Reads a chip, or gives the refusal of it or of the plan.
+pub fn read(plan: &[u8], chip: &[u8]) -> Result<Held, u32> {
+    let cells = check(plan)?.cells as usize;
+    if chip.len() > MAX_CHIP {
+        return Err(CHIP_LENGTH);
+    }
+    let places = places(plan);
+    let torn_end = chip.iter().rposition(|&byte| byte != ERASED);
+    let chip = &chip[..torn_end.map_or(0, |last| last + 1)];
+    let mut held = Held {
+        end: 0,
+        torn: 0,
+        last: Mark {
+            place: 1,
+            exclude: 0,
+            readings: 0,
+            outputs: 0,
+        },
+        values: [0; 256],
+    };
+    while held.end < chip.len() {
+        let mut seen = [0_u64; 4];
+        let records_end = records_end(chip, held.end, cells, &mut seen);
+        let Some(mark) = mark_at(chip, records_end, &places, held.last) else {
+            if !begins(&chip[records_end..], cells, &seen, &places, held.last) {
+                return Err(CHIP_DAMAGED);
+            }
+            held.torn = chip.len() - held.end;
+            return Ok(held);
+        };
+        for record in chip[held.end..records_end].chunks_exact(RECORD_LEN) {
+            held.values[usize::from(record[1])] = word(&record[2..]);
+        }
+        held.last = mark;
+        held.end = records_end + MARK_LEN;
+    }
+    Ok(held)
+}
+
+/// Of each offset whether it stands behind a CHECKPOINT and whether an EXCLUDE stands there; as the
+/// last EXCLUDE of a mark, 0 counts as one.
+fn places(plan: &[u8]) -> [u8; MAX_BYTES] {
+    let mut places = [0; MAX_BYTES];
+    places[0] = AT_EXCLUDE;
+    let mut offset = FIRST_INSTRUCTION;
+    while offset < plan.len() {
+        match plan[offset] {
+            CHECKPOINT => places[offset + 1] |= AFTER_CHECKPOINT,
+            EXCLUDE => places[offset] |= AT_EXCLUDE,
+            _ => {}
+        }
+        offset += LENGTHS[usize::from(plan[offset])];
+    }
+    places
+}
+
+/// Where the whole records of fresh cells end.
+fn records_end(chip: &[u8], from: usize, cells: usize, seen: &mut [u64; 4]) -> usize {
+    let mut at = from;
+    while let Some(&[RECORD, cell, ..]) = chip.get(at..at + RECORD_LEN) {
+        let cell = usize::from(cell);
+        let bit = 1 << (cell % 64);
+        if cell >= cells || seen[cell / 64] & bit != 0 {
+            break;
+        }
+        seen[cell / 64] |= bit;
+        at += RECORD_LEN;
+    }
+    at
+}
+
+fn word(bytes: &[u8]) -> u32 {
+    u32::from_le_bytes([bytes[0], bytes[1], bytes[2], bytes[3]])
+}
+
+fn place(places: &[u8; MAX_BYTES], offset: u16, kind: u8) -> bool {
+    places
+        .get(usize::from(offset))
+        .is_some_and(|place| place & kind != 0)
+}
+
+/// The sound whole mark that stands there, if one does.
+fn mark_at(chip: &[u8], at: usize, places: &[u8; MAX_BYTES], previous: Mark) -> Option<Mark> {
+    let bytes = chip.get(at..at + MARK_LEN)?;
+    let mark = Mark {
+        place: u16::from_le_bytes([bytes[1], bytes[2]]),
+        exclude: u16::from_le_bytes([bytes[3], bytes[4]]),
+        readings: word(&bytes[5..]),
+        outputs: word(&bytes[9..]),
+    };
+    let sound = bytes[0] == MARK
+        && bytes[13] == MARK_END
+        && place(places, mark.place, AFTER_CHECKPOINT)
+        && place(places, mark.exclude, AT_EXCLUDE)
+        && mark.readings >= previous.readings
+        && mark.outputs >= previous.outputs;
+    sound.then_some(mark)
+}
+
+/// Whether the bytes behind the whole records of a save begin what may follow them.
+fn begins(
+    rest: &[u8],
+    cells: usize,
+    seen: &[u64; 4],
+    places: &[u8; MAX_BYTES],
+    previous: Mark,
+) -> bool {
+    let fresh = |cell: usize| cell < cells && seen[cell / 64] >> (cell % 64) & 1 == 0;
+    let offset = |kind: u8, bytes: &[u8]| {
+        (0..MAX_BYTES as u16).any(|offset| {
+            place(places, offset, kind)
+                && offset.to_le_bytes().iter().zip(bytes).all(|(a, b)| a == b)
+        })
+    };
+    let count = |least: u32, bytes: &[u8]| {
+        let byte = |k: usize| bytes.get(k).copied().unwrap_or(0xFF);
+        u32::from_le_bytes([byte(0), byte(1), byte(2), byte(3)]) >= least
+    };
+    let from = |k: usize| rest.get(k..).unwrap_or(&[]);
+    if !offset(AFTER_CHECKPOINT, &[]) {
+        return false;
+    }
+    match rest {
+        [] => true,
+        [RECORD] => (0..cells).any(fresh),
+        [RECORD, cell, ..] => fresh(usize::from(*cell)),
+        [MARK, ..] => {
+            offset(AFTER_CHECKPOINT, from(1))
+                && offset(AT_EXCLUDE, from(3))
+                && count(previous.readings, from(5))
+                && count(previous.outputs, from(9))
+                && rest.get(13).is_none_or(|&end| end == MARK_END)
+        }
+        _ => false,
+    }
+}
+
+/// A plan of 256 cells with an EXCLUDE at offset 1 and a CHECKPOINT before offset 3.
+pub const PLAN: &[u8] = &[0xFF, EXCLUDE, CHECKPOINT, 0x01];
+
+/// Chips with their names: as many whole saves of so many cells as they hold, and FF. The shorter ones show how the
+/// time grows with the length.
+pub fn chips() -> Vec<(&'static str, Vec<u8>)> {
+    let named = [
+        ("256 cells", 256, MAX_CHIP),
+        ("16 cells", 16, MAX_CHIP),
+        ("16 cells, half", 16, MAX_CHIP / 2),
+        ("16 cells, quarter", 16, MAX_CHIP / 4),
+        ("1 cell", 1, MAX_CHIP),
+        ("no cell", 0, MAX_CHIP),
+    ];
+    named
+        .map(|(name, cells, length)| (name, full(cells, length)))
+        .into()
+}
+
+fn full(cells: usize, length: usize) -> Vec<u8> {
+    let mut chip = Vec::new();
+    loop {
+        let taken = chip.len() as u32;
+        // All 256 cells in turn, none near the one before.
+        let record = |k: usize| {
+            (
+                (taken as usize + k).wrapping_mul(91) as u8,
+                taken as i32 ^ k as i32,
+            )
+        };
+        let save = Save {
+            records: (0..cells).map(record).collect(),
+            mark: Mark {
+                place: 3,
+                exclude: 1,
+                readings: taken,
+                outputs: taken / 2,
+            },
+        };
+        let bytes = save.bytes();
+        if chip.len() + bytes.len() > length {
+            chip.resize(length, ERASED);
+            return chip;
+        }
+        chip.extend(bytes);
+    }
+}

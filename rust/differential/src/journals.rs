@@ -1,0 +1,119 @@
+//! Random chips: as the engine leaves them, and altered.
+
+use reference::check;
+use reference::journal::{Mark, Save, ERASED, MARK, MARK_END, RECORD};
+use reference::program::{CHECKPOINT, END, EXCLUDE, LENGTHS};
+
+use crate::examples::programs;
+use crate::rng::Rng;
+
+/// Plans of several kinds: document 001's programs, one cell, 256 cells, and offsets whose low bytes
+/// are the same or whose high bytes are not 0.
+pub fn plans() -> Vec<Vec<u8>> {
+    let mut plans: Vec<Vec<u8>> = programs().into_iter().map(|(_, plan)| plan).collect();
+    plans.push(vec![0, CHECKPOINT, END]);
+    plans.push(vec![0xFF, EXCLUDE, CHECKPOINT, END]);
+    let mut far = vec![2, EXCLUDE, CHECKPOINT];
+    far.resize(257, CHECKPOINT);
+    far.extend([EXCLUDE, CHECKPOINT, CHECKPOINT, END]);
+    plans.push(far);
+    plans
+}
+
+/// The offsets after each command of this kind, or of it.
+fn offsets(plan: &[u8], opcode: u8, plus: usize) -> Vec<u16> {
+    let mut offsets = Vec::new();
+    let mut at = 1;
+    while at < plan.len() {
+        if plan[at] == opcode {
+            offsets.push((at + plus) as u16);
+        }
+        at += LENGTHS[usize::from(plan[at])];
+    }
+    offsets
+}
+
+/// A count that is not below another: mostly the same or little more.
+fn count_from(rng: &mut Rng, least: u32) -> u32 {
+    match rng.below(8) {
+        0..3 => least,
+        3..7 => least.saturating_add(rng.below(70_000) as u32),
+        _ => least + ((u64::from(rng.word() as u32) * u64::from(u32::MAX - least)) >> 32) as u32,
+    }
+}
+
+/// A save that is sound after the mark.
+fn save(rng: &mut Rng, plan: &[u8], last: Mark) -> Save {
+    let cells = check(plan).expect("the plan is accepted").cells as usize;
+    let mut fresh: Vec<u8> = (0..cells).map(|cell| cell as u8).collect();
+    let size = match rng.below(4) {
+        0 => cells,
+        1 => 0,
+        _ => rng.below(cells.min(5) + 1),
+    };
+    let records = (0..size)
+        .map(|_| {
+            let cell = fresh.swap_remove(rng.below(fresh.len()));
+            let value = match rng.below(3) {
+                0 => -1,
+                1 => 0x5AA2_A100,
+                _ => rng.word() as i32,
+            };
+            (cell, value)
+        })
+        .collect();
+    let mut excludes = offsets(plan, EXCLUDE, 0);
+    excludes.push(0);
+    Save {
+        records,
+        mark: Mark {
+            place: rng.pick(&offsets(plan, CHECKPOINT, 1)),
+            exclude: rng.pick(&excludes),
+            readings: count_from(rng, last.readings),
+            outputs: count_from(rng, last.outputs),
+        },
+    }
+}
+
+/// A chip as the engine leaves it: sound saves, often a part of one more, and FF.
+pub fn stored(rng: &mut Rng, plan: &[u8]) -> Vec<u8> {
+    let mut chip = Vec::new();
+    let mut last = Mark {
+        place: 1,
+        exclude: 0,
+        readings: 0,
+        outputs: 0,
+    };
+    for _ in 0..rng.below(4) {
+        let save = save(rng, plan, last);
+        last = save.mark;
+        chip.extend(save.bytes());
+    }
+    let next = save(rng, plan, last).bytes();
+    chip.extend(&next[..rng.below(next.len())]);
+    let erased = rng.pick(&[0, 0, 1, 7, 40]);
+    chip.resize(chip.len() + erased, ERASED);
+    chip
+}
+
+/// The chip with a few bytes replaced, mostly by bytes that mean something, or some dropped.
+pub fn altered(rng: &mut Rng, mut chip: Vec<u8>) -> Vec<u8> {
+    for _ in 0..1 + rng.below(3) {
+        if chip.is_empty() {
+            chip.push(rng.byte());
+            continue;
+        }
+        let at = rng.below(chip.len());
+        match rng.below(6) {
+            0 => chip[at] = rng.byte(),
+            1 => chip[at] = rng.pick(&[RECORD, MARK, MARK_END, ERASED, 0x00]),
+            2 => chip[at] ^= 1 << rng.below(8),
+            3 => chip[at] = chip[at].wrapping_sub(1),
+            4 => chip.truncate(at),
+            _ => {
+                chip.remove(at);
+            }
+        }
+    }
+    chip
+}
