@@ -20,3 +20,4 @@ mod Peeling
 mod Walking
 mod Trimming
 mod Joining
+mod Filling

@@ -2,14 +2,18 @@
 // commit's fields. The records stand by rising cell number.
 use crate::Commit;
 use cellset::CellSet;
+use cellset::contains;
 use cellset::count;
 use cellset::nth;
 use word::byte;
+use word::store16;
+use word::store32;
 ghost use mathlib.Core.Path.{_≡_};
 ghost use mathlib.Core.List.{List};
-ghost use Prim.Native.Nat.{ℕ, _+_};
+ghost use Prim.Native.Nat.{ℕ, _+_, _≤_};
 ghost use lib.ListN.{length, getD};
 ghost use lib.Dec.{leb};
+ghost use lib.Seq.{sets};
 ghost use Rattle.journal.specs.Format.{Saved, recordImage, commitImage, image};
 ghost use Rattle.journal.specs.declared.Commit;
 ghost use Rattle.journal.specs.Writing.{checkpointOf};
@@ -82,4 +86,44 @@ pub fn image_byte(s: CellSet, values: &[u32; 256], c: Commit, k: usize) -> u8
     }
     let cell = nth(s, (k / 6) as u32);
     record_byte(cell, values[cell as usize], k % 6)
+}
+
+// A record from offset `at` on.
+fn record_into(buffer: &mut [u8; 1550], at: usize, cell: u8, value: u32)
+    requires { ⌜ at + 6 ≤ 1550 ⌝ }
+    ensures { λ _. ⌜ now (buffer .exit) ≡ sets (now (buffer .entry)) at (recordImage (record { cell = cell; value = value })) ⌝ }
+{
+    buffer[at] = 0xa1;
+    buffer[at + 1] = cell;
+    store32(buffer, at + 2, value);
+}
+
+// A commit from offset `at` on.
+fn commit_into(buffer: &mut [u8; 1550], at: usize, c: Commit)
+    requires { ⌜ at + 14 ≤ 1550 ⌝ }
+    ensures { λ _. ⌜ now (buffer .exit) ≡ sets (now (buffer .entry)) at (commitImage c) ⌝ }
+{
+    buffer[at] = 0xa2;
+    store16(buffer, at + 1, c.place);
+    store16(buffer, at + 3, c.exclude);
+    store32(buffer, at + 5, c.readings);
+    store32(buffer, at + 9, c.outputs);
+    buffer[at + 13] = 0x5a;
+}
+
+// All bytes of the checkpoint, from the buffer's start on; gives their number.
+pub fn image_into(buffer: &mut [u8; 1550], s: CellSet, values: &[u32; 256], c: Commit) -> usize
+    ensures { λ r. ⌜ (r ≡ length (image (checkpointOf (s .words) (now (values .entry)) c))) × (now (buffer .exit) ≡ sets (now (buffer .entry)) 0 (image (checkpointOf (s .words) (now (values .entry)) c))) ⌝ }
+{
+    let mut at: usize = 0;
+    let mut cell: usize = 0;
+    while cell < 256 {
+        if contains(s, cell as u8) {
+            record_into(buffer, at, cell as u8, values[cell]);
+            at += 6;
+        }
+        cell += 1;
+    }
+    commit_into(buffer, at, c);
+    at + 14
 }

@@ -1,1 +1,2 @@
 mod Probing
+mod Outcomes

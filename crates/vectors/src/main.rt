@@ -1,8 +1,9 @@
-// Runs document 01's rows about the check, the sets and the chip and prints what each gives: for the check
+// Runs document 01's rows about the check, the sets, the chip and runs and prints what each gives: for the check
 // a line to a row, with the number of the answer and, where the program passes, its cells, commands
 // and EXCLUDEs; for the sets the listing, below the row's name; for the chip what the module
-// journals says. Document 001's programs are those of examples/.
+// journals says, for runs what the module runs says. Document 001's programs are those of examples/.
 mod journals;
+mod runs;
 
 use libc::STDOUT_FILENO;
 use program::Checked;
@@ -43,8 +44,14 @@ fn sets(name: &[u8], plan: &[u8]) {
     io::write_all(STDOUT_FILENO, &text[..end]);
 }
 
+// The sets of one of document 001's programs, and a run of it.
+fn program(name: &[u8], plan: &[u8], readings: &[i32]) {
+    sets(name, plan);
+    runs::program(name, plan, readings);
+}
+
 fn cell() {
-    sets(
+    program(
         b"CELL",
         b"\x36\x02\x31\x01\x00\x00\x00\x02\x32\x02\x00\x00\x00\x02\x33\x03\x00\x00\x00\x02\
           \x34\x05\x00\x00\x00\x02\x35\x09\x00\x00\x00\x02\x36\x10\x00\x00\x00\x02\x20\xFB\
@@ -65,22 +72,24 @@ fn cell() {
           \x04\x2B\x2B\x31\x0A\x2B\x33\xF3\x00\x04\x2A\x2A\x31\x0A\x2A\x33\xED\x00\x0D\x0E\
           \x04\x29\x29\x31\x0A\x29\x32\x7C\x00\x02\x2C\x00\x00\x00\x00\x0B\x2F\x00\x10\x2C\
           \x08\x2F\x04\x2C\x2C\x31\x0A\x2C\x36\x63\x01\x01",
+        &[1, 1, 0, 0, 1, 1, 0, 1, 0, 0, 1, 1, 0, 1, 1, 0],
     );
 }
 
 fn sieve() {
-    sets(
+    program(
         b"SIEVE",
         b"\x16\x02\x15\x01\x00\x00\x00\x02\x16\x10\x00\x00\x00\x02\x10\x02\x00\x00\x00\x02\
           \x00\x02\x00\x00\x00\x08\x00\x02\x11\x01\x00\x00\x00\x04\x10\x10\x15\x02\x12\x00\
           \x00\x00\x00\x0B\x13\x00\x10\x12\x03\x14\x10\x0A\x14\x13\x3F\x00\x05\x14\x14\x13\
           \x09\x33\x00\x0A\x14\x15\x21\x00\x04\x12\x12\x15\x0A\x12\x11\x2B\x00\x05\x12\x11\
           \x15\x0C\x01\x0F\x12\x10\x08\x10\x0D\x0E\x04\x11\x11\x15\x0A\x11\x16\x21\x00\x01",
+        &[],
     );
 }
 
 fn contour() {
-    sets(
+    program(
         b"CONTOUR",
         b"\x2A\x02\x24\x00\x00\x00\x00\x02\x25\x01\x00\x00\x00\x02\x26\x04\x00\x00\x00\x02\
           \x27\x05\x00\x00\x00\x02\x28\x14\x00\x00\x00\x02\x29\x19\x00\x00\x00\x02\x2A\xFF\
@@ -94,6 +103,33 @@ fn contour() {
           \x20\x2A\x0D\x04\x1F\x1F\x25\x0A\x1F\x26\x6C\x00\x0E\x04\x1E\x1E\x25\x0A\x1E\x26\
           \x66\x00\x04\x1D\x1D\x27\x0A\x1D\x28\x60\x00\x02\x20\x00\x00\x00\x00\x0B\x23\x00\
           \x19\x20\x08\x23\x04\x20\x20\x25\x0A\x20\x29\xD9\x00\x01",
+        &[
+            0,
+            3,
+            7,
+            4,
+            1,
+            2,
+            8,
+            12,
+            9,
+            3,
+            5,
+            11,
+            18,
+            13,
+            6,
+            3,
+            9,
+            14,
+            10,
+            2,
+            1,
+            4,
+            6,
+            3,
+            0,
+        ],
     );
 }
 
@@ -141,4 +177,5 @@ fn main() {
     sieve();
     contour();
     journals::rows();
+    runs::rows();
 }

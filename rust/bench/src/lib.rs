@@ -2,4 +2,5 @@
 
 pub mod baseline;
 pub mod journals;
+pub mod machine;
 pub mod plans;

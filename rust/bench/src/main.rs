@@ -1,5 +1,5 @@
 //! Times the verified library against the baseline, in turns: check, and the whole of analyse, on
-//! each plan, and reading a chip. A line gives the microseconds of a call of each, the least of many turns, and the
+//! each plan, reading a chip, and a run. A line gives the microseconds of a call of each, the least of many turns, and the
 //! ratio of the two. With `--bar X` a ratio above X is a failure:
 //! `cargo run --release -p bench -- --bar 2`.
 
@@ -10,6 +10,7 @@ use std::time::Instant;
 
 use bench::baseline::{self, DEAD_WORDS, SET_WORDS};
 use bench::journals::{self, chips, PLAN};
+use bench::machine::{self, erased, timed, Timed};
 use bench::plans::plans;
 
 /// For how many microseconds the two are timed on a plan, and how many a turn takes at least.
@@ -39,6 +40,15 @@ fn main() -> ExitCode {
         passes &= report("read", name, times, bar);
         let [library, baseline] = times.map(|micros| chip.len() as f64 / micros);
         println!("{:26}{library:10.0}{baseline:10.0}", "  megabytes a second");
+    }
+    for timed in &timed() {
+        let times = race_run(timed);
+        passes &= report("run", timed.name, times, bar);
+        let [library, baseline] = times.map(|micros| timed.budget as f64 / micros);
+        println!(
+            "{:26}{library:10.0}{baseline:10.0}",
+            "  million steps a second"
+        );
     }
     match passes {
         true => ExitCode::SUCCESS,
@@ -132,6 +142,37 @@ fn race_read(chip: &[u8]) -> [f64; 2] {
         },
         || {
             let _ = black_box(journals::read(PLAN, black_box(chip)));
+        },
+    )
+}
+
+/// Asserts that library and baseline run the same, and races them, each on a chip that is erased first.
+fn race_run(timed: &Timed) -> [f64; 2] {
+    let sets = vec![0; SET_WORDS];
+    let budget = timed.budget;
+    let mut chips = [erased(timed.chip), erased(timed.chip)];
+    let [ours, theirs] = &mut chips;
+    let ran = differential::run(&timed.plan, &sets, ours, &[], &mut [], budget, 0);
+    let expected = machine::run(&timed.plan, &sets, theirs, &[], &mut [], budget);
+    assert_eq!((Ok(ran), &*ours), (expected, &*theirs), "{}", timed.name);
+    race(
+        || {
+            ours.fill(0xFF);
+            let plan = black_box(&timed.plan);
+            black_box(differential::run(
+                plan,
+                &sets,
+                ours,
+                &[],
+                &mut [],
+                budget,
+                0,
+            ));
+        },
+        || {
+            theirs.fill(0xFF);
+            let plan = black_box(&timed.plan);
+            let _ = black_box(machine::run(plan, &sets, theirs, &[], &mut [], budget));
         },
     )
 }

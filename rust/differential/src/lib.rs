@@ -45,6 +45,24 @@ extern "C" {
         outputs: *mut u32,
         value: *mut u32,
     ) -> u32;
+
+    fn probe_run(
+        plan: *const u8,
+        plan_len: usize,
+        sets: *const u64,
+        sets_len: usize,
+        chip: *mut u8,
+        chip_len: usize,
+        readings: *const i32,
+        readings_len: usize,
+        outputs: *mut i32,
+        outputs_len: usize,
+        budget: u64,
+        ended: *mut u32,
+        steps: *mut u64,
+        taken: *mut u64,
+        written: *mut u64,
+    ) -> u32;
 }
 
 /// The result of a check, and its three numbers after the call: cells, commands, EXCLUDEs.
@@ -113,4 +131,55 @@ pub fn probe(plan: &[u8], chip: &[u8], cell: u8, before: Probed) -> (u32, Probed
     };
     let after = [end, torn, place, exclude, readings, outputs, value];
     (result, after)
+}
+
+/// What a run of the probe gives back: the result, how it ended, and its steps, readings taken and
+/// outputs written.
+#[derive(Clone, Copy, Debug, PartialEq, Eq)]
+pub struct Ran {
+    pub result: u32,
+    pub ended: u32,
+    pub steps: u64,
+    pub taken: u64,
+    pub written: u64,
+}
+
+/// Calls the probe of a run from the first state. The numbers hold `before` when it is called.
+pub fn run(
+    plan: &[u8],
+    sets: &[u64],
+    chip: &mut [u8],
+    readings: &[i32],
+    outputs: &mut [i32],
+    budget: u64,
+    before: u32,
+) -> Ran {
+    let mut ran = Ran {
+        result: 0,
+        ended: before,
+        steps: before.into(),
+        taken: before.into(),
+        written: before.into(),
+    };
+    // SAFETY: a slice's pointer and length go together, and a slice lent by `&mut` overlaps no other.
+    ran.result = unsafe {
+        probe_run(
+            plan.as_ptr(),
+            plan.len(),
+            sets.as_ptr(),
+            sets.len(),
+            chip.as_mut_ptr(),
+            chip.len(),
+            readings.as_ptr(),
+            readings.len(),
+            outputs.as_mut_ptr(),
+            outputs.len(),
+            budget,
+            &mut ran.ended,
+            &mut ran.steps,
+            &mut ran.taken,
+            &mut ran.written,
+        )
+    };
+    ran
 }

@@ -6,6 +6,7 @@ pub mod analysis;
 pub mod check;
 pub mod journal;
 pub mod listing;
+pub mod machine;
 pub mod program;
 pub mod refusal;
 

@@ -16,6 +16,10 @@ pub const TOO_MANY: u32 = 6;
 pub const BAD_LAST_INSTRUCTION: u32 = 7;
 /// A jump's target isn't the offset of a instruction.
 pub const BAD_TARGET: u32 = 8;
+/// A word buffer is too short.
+pub const BUFFER_TOO_SHORT: u32 = 9;
+/// The state is not sound.
+pub const STATE_NOT_SOUND: u32 = 10;
 /// The chip is over 65,536 bytes.
 pub const CHIP_LENGTH: u32 = 11;
 /// The chip is damaged.

@@ -126,6 +126,7 @@ fn vectors_prints_what_the_reference_answers() {
 
     let file = Path::new(env!("CARGO_MANIFEST_DIR")).join("../../crates/vectors/stdout");
     let stdout = fs::read_to_string(file).expect("crates/vectors/stdout can be read");
-    let at = stdout.find("stored 0:").expect("the rows begin");
-    assert_eq!(rows, stdout[at..]);
+    let from = stdout.find("stored 0:").expect("the rows begin");
+    let to = stdout.find("readings 5 7 -2:").expect("the rows end");
+    assert_eq!(rows, stdout[from..to]);
 }

@@ -1,0 +1,144 @@
+-- Bytes that are stored one after the other in a buffer: a record, a commit, and the whole checkpoint as `image_into` fills it in, cell by cell.
+-- Assumes nothing.
+use mathlib.Core.Path.{_≡_, refl, sym, ap, _∙_}
+use mathlib.Core.Bool.{Bool, true, false, cond}
+use mathlib.Core.List.{List, [], _∷_, _++_, append-assoc}
+use Prim.Native.Nat.{ℕ, suc, _+_, _-_, _*_, _≤_, _<_}
+use native.Mathlib.Nat.{add-zero}
+use native.Mathlib.Numerals.{add-one}
+use native.Mathlib.Omega.{arith}
+use lib.Dec.{eqb}
+use lib.ListN.{length, getD, set, length-append}
+use lib.Seq.{sets}
+use Rattle.word.specs.Bytes.{bytesOf, storeOf}
+use Rattle.word.proofs.Bytes.{length-bytes}
+use Rattle.cellset.specs.Bits.{has}
+use Rattle.cellset.specs.Members.{membersFrom, members}
+use Rattle.journal.specs.declared.Commit.{Commit}
+use Rattle.journal.specs.Format.{Saved, recordImage, fieldsImage, commitImage, recordsImage, image}
+use Rattle.journal.specs.Writing.{recordsOf, checkpointOf}
+use Rattle.journal.proofs.Images.{record-length, commit-length}
+
+-- to store bytes, and others from where they end, is to store both
+sets-then : (l : List ℕ) (at next : ℕ) (a b : List ℕ) → next ≡ at + length a → sets (sets l at a) next b ≡ sets l at (a ++ b)
+sets-then l at next [] b e = rw (e, add-zero at)
+sets-then l at next (x ∷ a) b e = sets-then (set l at x) (suc at) next a b (omega arith)
+
+-- ---- a record
+
+pub record-stored : (l : List ℕ) (at cell value : ℕ) {t : List ℕ} → t ≡ storeOf 4 (set (set l at 0xA1) (at + 1) cell) (at + 2) value
+    → t ≡ sets l at (recordImage (record { cell = cell; value = value }))
+unfolding storeOf
+record-stored l at cell value e =
+    let two : at + 2 ≡ suc (suc at) = omega arith in
+    rw (two, add-one at) at e
+
+-- ---- a commit
+
+-- a number that is stored, and then what follows it
+store-then : (n v : ℕ) (l : List ℕ) (at next : ℕ) (rest : List ℕ) {t : List ℕ} → t ≡ storeOf n l at v → next ≡ at + n
+    → sets t next rest ≡ sets l at (bytesOf n v ++ rest)
+unfolding storeOf
+store-then n v l at next rest e f =
+    ap (λ (u : List ℕ). sets u next rest) e ∙ sets-then l at next (bytesOf n v) rest (omega (arith, length-bytes n v))
+
+pub commit-stored : (l : List ℕ) (at : ℕ) (c : Commit) {t u v w : List ℕ} → t ≡ storeOf 2 (set l at 0xA2) (at + 1) (c .place)
+    → u ≡ storeOf 2 t (at + 3) (c .exclude) → v ≡ storeOf 4 u (at + 5) (c .readings) → w ≡ storeOf 4 v (at + 9) (c .outputs)
+    → set w (at + 13) 0x5A ≡ sets l at (commitImage c)
+unfolding fieldsImage
+commit-stored l at c {t} {u} {v} {w} d e f g =
+    let end : List ℕ = 0x5A ∷ [] in
+    let outputs : List ℕ = bytesOf 4 (c .outputs) ++ end in
+    let readings : List ℕ = bytesOf 4 (c .readings) ++ outputs in
+    let exclude : List ℕ = bytesOf 2 (c .exclude) ++ readings in
+    let place : List ℕ = bytesOf 2 (c .place) ++ exclude in
+    store-then 4 (c .outputs) v (at + 9) (at + 13) end g (omega arith)
+    ∙ store-then 4 (c .readings) u (at + 5) (at + 9) outputs f (omega arith)
+    ∙ store-then 2 (c .exclude) t (at + 3) (at + 5) readings e (omega arith)
+    ∙ store-then 2 (c .place) (set l at 0xA2) (at + 1) (at + 3) exclude d (omega arith)
+    ∙ ap (λ (k : ℕ). sets (set l at 0xA2) k place) (add-one at)
+
+-- ---- the checkpoint
+
+-- the cells of the set from `cell` on
+abbrev pub cellsFrom : List ℕ → ℕ → List ℕ
+cellsFrom s cell = membersFrom s cell (256 - cell)
+
+-- their records, then the commit
+abbrev pub restOf : List ℕ → Commit → List ℕ → List ℕ
+restOf values c cells = recordsImage (recordsOf cells values) (commitImage c)
+
+-- `image_into`: the text stands in the buffer, and the records of the cells from `cell` on and the commit are to follow it
+pub record Filling (s values : List ℕ) (c : Commit) (before now : List ℕ) (at cell : ℕ) : Type 0 where
+  pub text : List ℕ
+  pub stored : now ≡ sets before 0 text
+  pub offset : at ≡ length text
+  pub whole : image (checkpointOf s values c) ≡ text ++ restOf values c (cellsFrom s cell)
+  pub most : at ≤ 6 * cell
+  pub below : cell ≤ 256
+
+pub filling-first : (s values : List ℕ) (c : Commit) (l : List ℕ) → Filling s values c l l 0 0
+unfolding image checkpointOf members
+filling-first s values c l =
+    record { text = []; stored = refl; offset = refl; whole = refl; most = omega arith; below = omega arith }
+
+-- the next cell stands before the others where it is one of the set
+cells-next : (s : List ℕ) (cell : ℕ) (b : Bool) → cell < 256 → eqb (has s cell) 1 ≡ b
+    → cellsFrom s cell ≡ cond b (cell ∷ cellsFrom s (cell + 1)) (cellsFrom s (cell + 1))
+unfolding membersFrom
+cells-next s cell b h e =
+    let n : 256 - cell ≡ suc (256 - (cell + 1)) = omega arith in
+    rw (n, e, add-one cell)
+
+-- past the last there is none
+cells-none : (s : List ℕ) (cell : ℕ) → 256 ≤ cell → cellsFrom s cell ≡ []
+unfolding membersFrom
+cells-none s cell h = let e : 256 - cell ≡ 0 = omega arith in rw e
+
+module _ {s values : List ℕ} {c : Commit} {before now : List ℕ} {at cell : ℕ} (f : Filling s values c before now at cell) where
+  -- more bytes stand behind the text
+  filling-sets : (more : List ℕ) {t : List ℕ} → t ≡ sets now at more → t ≡ sets before 0 (f .text ++ more)
+  filling-sets more e =
+      e
+      ∙ ap (λ (l : List ℕ). sets l at more) (f .stored)
+      ∙ sets-then before 0 at (f .text) more (omega (arith, f .offset))
+
+  -- a cell of the set: its record follows
+  pub filling-in : cell < 256 → eqb (has s cell) 1 ≡ true → {t : List ℕ} {next : ℕ}
+      → t ≡ sets now at (recordImage (record { cell = cell; value = getD values cell 0 })) → next ≡ at + 6 → Filling s values c before t next (cell + 1)
+  unfolding recordsImage recordsOf
+  filling-in h b e n =
+      let r : Saved = record { cell = cell; value = getD values cell 0 } in
+      record {
+        text = f .text ++ recordImage r;
+        stored = filling-sets (recordImage r) e;
+        offset = omega (arith, f .offset, length-append (f .text) (recordImage r), record-length r);
+        whole = f .whole
+            ∙ ap (λ (cells : List ℕ). f .text ++ restOf values c cells) (cells-next s cell true h b)
+            ∙ sym (append-assoc (f .text) (recordImage r) (restOf values c (cellsFrom s (cell + 1))));
+        most = omega (arith, n, f .most);
+        below = omega arith;
+      }
+
+  -- no cell of the set
+  pub filling-out : cell < 256 → eqb (has s cell) 1 ≡ false → {t : List ℕ} {next : ℕ} → t ≡ now → next ≡ at → Filling s values c before t next (cell + 1)
+  filling-out h b e n = record {
+    text = f .text;
+    stored = e ∙ f .stored;
+    offset = n ∙ f .offset;
+    whole = f .whole ∙ ap (λ (cells : List ℕ). f .text ++ restOf values c cells) (cells-next s cell false h b);
+    most = omega (arith, n, f .most);
+    below = omega arith;
+  }
+
+  -- past the last cell the commit alone is to follow
+  filling-end : 256 ≤ cell → image (checkpointOf s values c) ≡ f .text ++ commitImage c
+  unfolding recordsImage recordsOf
+  filling-end h = f .whole ∙ ap (λ (cells : List ℕ). f .text ++ restOf values c cells) (cells-none s cell h)
+
+  pub filling-done : 256 ≤ cell → {t : List ℕ} → t ≡ sets now at (commitImage c)
+      → (at + 14 ≡ length (image (checkpointOf s values c))) × (t ≡ sets before 0 (image (checkpointOf s values c)))
+  filling-done h e = (
+    omega (arith, f .offset, ap length (filling-end h), length-append (f .text) (commitImage c), commit-length c),
+    filling-sets (commitImage c) e ∙ ap (sets before 0) (sym (filling-end h)),
+  )

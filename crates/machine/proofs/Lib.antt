@@ -1,0 +1,17 @@
+-- What the crates above cite: the laws of a run, the facts of a sound state, and that a step keeps it sound; below, what the proofs of the functions use.
+-- Assumes nothing.
+pub mod Laws
+pub mod Facts
+pub mod Allowed
+pub mod Keeping
+pub mod Fetching
+pub mod Starting
+pub mod Along
+mod Soundness
+mod Stepping
+mod Choosing
+mod Flowing
+mod Calls
+mod Turns
+mod Running
+mod Stretching

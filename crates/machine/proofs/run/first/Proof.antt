@@ -1,0 +1,20 @@
+-- `first` meets its contract.
+-- Assumes nothing.
+use borrow.Author.Needs.{needs}
+use Rattle.machine.proofs.Turns.{first-none}
+use Rattle.machine.proofs.run.first.Statement.{statement}
+use Rattle.machine.proofs.run.first.Tie as tie
+use Rattle.machine.proofs.run.first.Reads as reads
+use Rattle.machine.proofs.run.first.Lts as lts
+
+returns : tie.Need-returns
+returns c = first-none (c .before .args .readings .now) (c .if1 .taken)
+
+shared-slice-copy-out-result : tie.Need-shared-slice-copy-out-result
+shared-slice-copy-out-result c = search needs
+
+returns-2 : tie.Need-returns-2
+returns-2 c = search needs
+
+pub first-spec : {M : Type 1} → statement M
+first-spec = tie.close (tie.spec returns shared-slice-copy-out-result returns-2)

@@ -1,0 +1,50 @@
+-- `machine::stretch::make` meets its contract.
+-- Assumes nothing.
+use borrow.Author.Needs.{needs}
+use Rattle.machine.proofs.Stepping.{place-fits}
+use Rattle.machine.proofs.Stretching.{makes}
+use Rattle.machine.proofs.stretch.make.Statement.{statement}
+use Rattle.machine.proofs.stretch.make.Tie as tie
+
+cell-count-requires : tie.Need-cell-count-requires
+cell-count-requires c κs = search needs
+
+stored-cells-requires : tie.Need-stored-cells-requires
+stored-cells-requires c κs = search needs
+
+cast-after : tie.Need-cast-after
+cast-after c = search needs
+
+after-requires : tie.Need-after-requires
+after-requires c κs = search needs
+
+cast-t10 : tie.Need-cast-t10
+cast-t10 c = place-fits (c .before .before .before .before .before .pre .0) (c .after .ensures)
+
+cast-t11 : tie.Need-cast-t11
+cast-t11 c = search needs
+
+image-into-requires : tie.Need-image-into-requires
+image-into-requires c κs = search needs
+
+returns : tie.Need-returns
+returns c =
+    let at-after = c .before .before .before in
+    let cells = at-after .before .before in
+    let s = cells .before .before .before in
+    let a = s .args in
+    makes (a .p .now) (a .r) (a .cells .now) (a .marks .now) (a .buffer .now) (cells .before .cell-count .ensures .0) (cells .stored-cells .ensures)
+    (s .pre .2) (at-after .after .ensures) (c .image-into .ensures)
+
+pub make-spec : {M : Type 1} → statement M
+make-spec =
+    tie.close
+    (tie.spec
+    cell-count-requires
+    stored-cells-requires
+    cast-after
+    after-requires
+    cast-t10
+    cast-t11
+    image-into-requires
+    returns)

@@ -1,0 +1,186 @@
+// The machine (document 01: 'Marks, steps and the chip'): its state, a step and a run.
+mod quiet;
+mod run;
+mod sound;
+mod step;
+mod stretch;
+
+use program::Checked;
+use program::places::places;
+use run::run;
+use sound::sound;
+ghost use mathlib.Core.Path.{_≡_};
+ghost use mathlib.Core.List.{List};
+ghost use Prim.Native.Nat.{ℕ, _≤_};
+ghost use lib.ListN.{length};
+ghost use Rattle.program.specs.Places.{Places};
+ghost use Rattle.machine.specs.State.{envOf, machineOf};
+ghost use Rattle.machine.specs.Run.{lateRefusal, outcome, callOf};
+ghost use Rattle.machine.specs.Ready.{Legal};
+
+// The registers: the place (offset of the instruction due), the last EXCLUDE executed or 0, the readings
+// taken and the outputs given, the kind of stop, the write position, the bytes to erase, and 0 or one more
+// than the bytes stored of the save at work.
+pub struct Regs {
+    pub pc: u32,
+    pub exclude: u32,
+    pub readings: u32,
+    pub outputs: u32,
+    pub stop: u32,
+    pub write: u32,
+    pub erase: u32,
+    pub saving: u32,
+}
+
+// The state: the registers, the cells' patterns and their marks' bytes.
+pub struct State {
+    pub regs: Regs,
+    pub cells: [u32; 256],
+    pub marks: [u8; 256],
+}
+
+// How a run ended: refused, stopped with its kind, budget spent, no reading left, output buffer full.
+pub enum Ended {
+    Refused(u32),
+    Stopped(u32),
+    Spent,
+    NoReading,
+    BufferFull,
+}
+
+// Where a run stands: its registers, steps, readings taken and outputs written.
+pub struct Pass {
+    pub regs: Regs,
+    pub steps: u64,
+    pub taken: usize,
+    pub written: usize,
+}
+
+// What a call of run gives back: the state, how the run ended, and this call's steps, readings taken and
+// outputs written.
+pub struct Ran {
+    pub state: State,
+    pub ended: Ended,
+    pub steps: u64,
+    pub taken: usize,
+    pub written: usize,
+}
+
+fn refused(state: State, number: u32) -> Ran
+    ensures { λ r. ⌜ r ≡ record { state = state; ended = Ended.Refused number; steps = 0; taken = 0; written = 0 } ⌝ }
+{
+    Ran {
+        state,
+        ended: Ended::Refused(number),
+        steps: 0,
+        taken: 0,
+        written: 0,
+    }
+}
+
+// The refusals 9 to 11, 0 where there is none, for an accepted program and its table of places.
+fn late_refusal(
+    r: Regs,
+    program: &[u8],
+    table: &[u8; 2048],
+    words: usize,
+    cells: &[u32; 256],
+    marks: &[u8; 256],
+    len: usize,
+) -> u32
+    requires { ⌜ Legal (now program) × Places (now program) (now table) ⌝ }
+    ensures { λ n. ⌜ ((l : List ℕ) → length l ≡ len → n ≡ lateRefusal (now (program .entry)) words (machineOf r (now (cells .entry)) (now (marks .entry)) l)) ⌝ }
+{
+    if words < 512 {
+        return 9;
+    }
+    if !sound(r, program, table, cells, marks, len) {
+        return 10;
+    }
+    if 65536 < len {
+        return 11;
+    }
+    0
+}
+
+// The run of an accepted program, which the other refusals may still prevent.
+fn run_legal(
+    state: State,
+    program: &[u8],
+    sets: &[u64],
+    journal: &mut [u8],
+    readings: &[i32],
+    outputs: &mut [i32],
+    budget: u64,
+) -> Ran
+    requires { ⌜ Legal (now program) ⌝ }
+    ensures { λ r. ⌜ outcome (r .ended) (machineOf (r .state .regs) (r .state .cells) (r .state .marks) (now (journal .exit))) (r .steps) (r .taken) (r .written) (now (outputs .exit)) ≡ callOf (envOf (now (program .entry)) (now (sets .entry))) (now (readings .entry)) budget (machineOf (state .regs) (state .cells) (state .marks) (now (journal .entry))) (now (outputs .entry)) ⌝ }
+{
+    let table = places(program);
+    let regs = state.regs;
+    let mut cells = state.cells;
+    let mut marks = state.marks;
+    let words = sets.len();
+    let number = late_refusal(regs, program, &table, words, &cells, &marks, journal.len());
+    if number != 0 {
+        return refused(state, number);
+    }
+    let end = run(
+        regs,
+        budget,
+        readings,
+        program,
+        &table,
+        sets,
+        &mut cells,
+        &mut marks,
+        journal,
+        outputs,
+    );
+    let ended = end.ended;
+    let pass = end.pass;
+    let regs = pass.regs;
+    Ran {
+        state: State { regs, cells, marks },
+        ended,
+        steps: pass.steps,
+        taken: pass.taken,
+        written: pass.written,
+    }
+}
+
+// A run, or a refusal that alters nothing.
+pub fn run_value(
+    state: State,
+    program: &[u8],
+    sets: &[u64],
+    journal: &mut [u8],
+    readings: &[i32],
+    outputs: &mut [i32],
+    budget: u64,
+) -> Ran
+    ensures { λ r. ⌜ outcome (r .ended) (machineOf (r .state .regs) (r .state .cells) (r .state .marks) (now (journal .exit))) (r .steps) (r .taken) (r .written) (now (outputs .exit)) ≡ callOf (envOf (now (program .entry)) (now (sets .entry))) (now (readings .entry)) budget (machineOf (state .regs) (state .cells) (state .marks) (now (journal .entry))) (now (outputs .entry)) ⌝ }
+{
+    match program::check(program) {
+        Checked::Refused(number) => refused(state, number),
+        Checked::Program {
+            cells: _,
+            instructions: _,
+            excludes: _,
+        } => run_legal(state, program, sets, journal, readings, outputs, budget),
+    }
+}
+
+// A run with a budget of one step.
+pub fn step_value(
+    state: State,
+    program: &[u8],
+    sets: &[u64],
+    journal: &mut [u8],
+    readings: &[i32],
+    outputs: &mut [i32],
+) -> Ran
+    ensures { λ r. ⌜ outcome (r .ended) (machineOf (r .state .regs) (r .state .cells) (r .state .marks) (now (journal .exit))) (r .steps) (r .taken) (r .written) (now (outputs .exit)) ≡ callOf (envOf (now (program .entry)) (now (sets .entry))) (now (readings .entry)) 1 (machineOf (state .regs) (state .cells) (state .marks) (now (journal .entry))) (now (outputs .entry)) ⌝ }
+{
+    run_value(state, program, sets, journal, readings, outputs, 1)
+}

@@ -1,0 +1,334 @@
+//! The machine (document 01, 'Plans' and 'Marks, steps and the chip'): its state, a step and a run. It works in
+//! place on the state and on the chip, a step at a time, as the document's sentences go.
+
+use std::collections::BTreeMap;
+
+use crate::check::{check, instructions};
+use crate::journal::{Mark as Commit, Save, ERASED, MAX_CHIP};
+use crate::program::{Instruction, Table, LENGTHS, MAX_EXCLUDES};
+use crate::refusal::{BUFFER_TOO_SHORT, CHIP_LENGTH, STATE_NOT_SOUND};
+
+pub const MAX_CELLS: usize = 256;
+pub const SET_WORDS: usize = 8 * MAX_EXCLUDES;
+
+/// The mark of a cell.
+#[derive(Clone, Copy, Debug, PartialEq, Eq)]
+pub enum Mark {
+    Include,
+    Pending,
+    Kept,
+    Dead,
+}
+
+/// The kind of a stop.
+#[derive(Clone, Copy, Debug, PartialEq, Eq)]
+pub enum Stop {
+    Ended,
+    Divisor,
+    CountFull,
+}
+
+/// The machine's state. `saving` is how many bytes of a save are stored while it saves.
+#[derive(Clone, Debug, PartialEq, Eq)]
+pub struct State {
+    pub cells: [i32; MAX_CELLS],
+    pub marks: [Mark; MAX_CELLS],
+    pub place: u32,
+    pub exclude: u32,
+    pub readings: u32,
+    pub outputs: u32,
+    pub stop: Option<Stop>,
+    pub write: u32,
+    pub erase: u32,
+    pub saving: Option<u32>,
+}
+
+impl State {
+    /// What recovery leaves on an erased chip: "all cells and both counts 0, at offset 1, not stopped".
+    pub fn first() -> State {
+        State {
+            cells: [0; MAX_CELLS],
+            marks: [Mark::Include; MAX_CELLS],
+            place: 1,
+            exclude: 0,
+            readings: 0,
+            outputs: 0,
+            stop: None,
+            write: 0,
+            erase: 0,
+            saving: None,
+        }
+    }
+}
+
+/// What ended a run.
+#[derive(Clone, Copy, Debug, PartialEq, Eq)]
+pub enum Ended {
+    Stopped(Stop),
+    Spent,
+    NoReading,
+    BufferFull,
+}
+
+/// The answer of a run: what ended it, and this call's steps, readings taken and outputs.
+#[derive(Clone, Debug, PartialEq, Eq)]
+pub struct Ran {
+    pub ended: Ended,
+    pub steps: u64,
+    pub taken: usize,
+    pub given: Vec<i32>,
+}
+
+/// An accepted plan and the words lent with it.
+struct Machine<'a> {
+    cells: usize,
+    commands: BTreeMap<u32, Instruction>,
+    sets: &'a [u64],
+}
+
+/// Runs a plan on a state and a chip, with places for `room` outputs; or gives the refusal, 1 to 11, and alters
+/// nothing.
+pub fn run(
+    plan: &[u8],
+    sets: &[u64],
+    chip: &mut [u8],
+    state: &mut State,
+    readings: &[i32],
+    room: usize,
+    budget: u64,
+) -> Result<Ran, u32> {
+    let machine = Machine::new(plan, sets)?;
+    if !machine.is_sound(state, chip.len()) {
+        return Err(STATE_NOT_SOUND);
+    }
+    if chip.len() > MAX_CHIP {
+        return Err(CHIP_LENGTH);
+    }
+    let mut ran = Ran {
+        ended: Ended::Spent,
+        steps: 0,
+        taken: 0,
+        given: Vec::new(),
+    };
+    loop {
+        if let Some(ended) = machine.exit(state, &ran, readings, room, budget) {
+            ran.ended = ended;
+            return Ok(ran);
+        }
+        machine.step(state, chip, &mut ran, readings);
+        ran.steps += 1;
+    }
+}
+
+impl<'a> Machine<'a> {
+    /// The refusals 1 to 9.
+    fn new(plan: &[u8], sets: &'a [u64]) -> Result<Machine<'a>, u32> {
+        let cells = check(plan)?.cells as usize;
+        if sets.len() < SET_WORDS {
+            return Err(BUFFER_TOO_SHORT);
+        }
+        let commands = instructions(plan, cells)?;
+        let commands = commands.into_iter().map(|(at, c)| (at as u32, c)).collect();
+        Ok(Machine {
+            cells,
+            commands,
+            sets,
+        })
+    }
+
+    /// "A state is sound if .."; sums do not wrap.
+    fn is_sound(&self, state: &State, chip: usize) -> bool {
+        let missing_clear = (self.cells..MAX_CELLS)
+            .all(|cell| state.cells[cell] == 0 && state.marks[cell] == Mark::Include);
+        let is_exclude = self.commands.get(&state.exclude) == Some(&Instruction::Exclude);
+        let fits = state.write as usize + state.erase as usize <= chip;
+        let saving = state.saving.is_none_or(|stored| {
+            let size = self.save(state).bytes().len();
+            self.commands.get(&state.place) == Some(&Instruction::Checkpoint)
+                && state.erase == 0
+                && (stored as usize) < size
+                && state.write as usize + (size - stored as usize) <= chip
+        });
+        self.commands.contains_key(&state.place)
+            && (state.exclude == 0 || is_exclude)
+            && missing_clear
+            && fits
+            && saving
+    }
+
+    /// What is due: nothing of the plan while bytes are to be erased or stored.
+    fn due(&self, state: &State) -> Option<Instruction> {
+        match state.erase == 0 && state.saving.is_none() {
+            true => Some(self.commands[&state.place]),
+            false => None,
+        }
+    }
+
+    /// "before each it tries in this order: stopped; budget spent; the step due is a READ with no reading left;
+    /// it is an EMIT with the output buffer full".
+    fn exit(
+        &self,
+        state: &State,
+        ran: &Ran,
+        readings: &[i32],
+        room: usize,
+        budget: u64,
+    ) -> Option<Ended> {
+        if let Some(stop) = state.stop {
+            return Some(Ended::Stopped(stop));
+        }
+        if ran.steps == budget {
+            return Some(Ended::Spent);
+        }
+        match self.due(state) {
+            Some(Instruction::Read { .. }) if ran.taken == readings.len() => Some(Ended::NoReading),
+            Some(Instruction::Emit { .. }) if ran.given.len() == room => Some(Ended::BufferFull),
+            _ => None,
+        }
+    }
+
+    fn step(&self, state: &mut State, chip: &mut [u8], ran: &mut Ran, readings: &[i32]) {
+        if state.erase > 0 {
+            state.erase -= 1;
+            chip[(state.write + state.erase) as usize] = ERASED;
+        } else if let Some(stored) = state.saving {
+            self.store(state, chip, stored);
+        } else {
+            self.execute(state, chip.len(), ran, readings);
+        }
+    }
+
+    /// The save of the present state: "for each Include or Pending cell that exists", by rising number.
+    fn save(&self, state: &State) -> Save {
+        let stored = |cell: &usize| matches!(state.marks[*cell], Mark::Include | Mark::Pending);
+        let record = |cell: usize| (cell as u8, state.cells[cell]);
+        Save {
+            records: (0..self.cells).filter(stored).map(record).collect(),
+            mark: Commit {
+                place: (state.place + 1) as u16,
+                exclude: state.exclude as u16,
+                readings: state.readings,
+                outputs: state.outputs,
+            },
+        }
+    }
+
+    /// The next byte of the save; "With the last byte, Pending becomes Kept and the plan goes on."
+    fn store(&self, state: &mut State, chip: &mut [u8], stored: u32) {
+        let bytes = self.save(state).bytes();
+        chip[state.write as usize] = bytes[stored as usize];
+        state.write += 1;
+        state.saving = Some(stored + 1);
+        if stored as usize + 1 == bytes.len() {
+            for mark in state
+                .marks
+                .iter_mut()
+                .filter(|mark| **mark == Mark::Pending)
+            {
+                *mark = Mark::Kept;
+            }
+            state.saving = None;
+            state.place += 1;
+        }
+    }
+
+    /// The command at the place, by the document's table.
+    fn execute(&self, state: &mut State, chip: usize, ran: &mut Ran, readings: &[i32]) {
+        let command = self.commands[&state.place];
+        let next = state.place + LENGTHS[usize::from(opcode(command))] as u32;
+        let cell = |c: u8| state.cells[usize::from(c)];
+        let table_cell = |table: Table, i: u8| {
+            let place = i64::from(cell(i)).rem_euclid(i64::from(table.len));
+            table.base + place as u8
+        };
+        let mut write = None;
+        let mut to = next;
+        match command {
+            Instruction::End => return state.stop = Some(Stop::Ended),
+            Instruction::Set { d, v } => write = Some((d, v)),
+            Instruction::Copy { d, a } => write = Some((d, cell(a))),
+            Instruction::Add { d, a, b } => write = Some((d, cell(a).wrapping_add(cell(b)))),
+            Instruction::Sub { d, a, b } => write = Some((d, cell(a).wrapping_sub(cell(b)))),
+            Instruction::Div { d, a, b } => match cell(b) {
+                0 => return state.stop = Some(Stop::Divisor),
+                divisor => write = Some((d, cell(a).wrapping_div(divisor))),
+            },
+            Instruction::Read { .. } if state.readings == u32::MAX => {
+                return state.stop = Some(Stop::CountFull);
+            }
+            Instruction::Read { d } => {
+                write = Some((d, readings[ran.taken]));
+                ran.taken += 1;
+                state.readings += 1;
+            }
+            Instruction::Emit { .. } if state.outputs == u32::MAX => {
+                return state.stop = Some(Stop::CountFull);
+            }
+            Instruction::Emit { a } => {
+                ran.given.push(cell(a));
+                state.outputs += 1;
+            }
+            Instruction::Jump { t } => to = u32::from(t),
+            Instruction::Less { a, b, t } => {
+                if cell(a) < cell(b) {
+                    to = u32::from(t);
+                }
+            }
+            Instruction::Get { d, table, i } => write = Some((d, cell(table_cell(table, i)))),
+            Instruction::Put { table, i, a } => write = Some((table_cell(table, i), cell(a))),
+            Instruction::Exclude => {
+                self.exclude(state);
+                state.exclude = state.place;
+            }
+            Instruction::Checkpoint => {
+                if state.write as usize + self.save(state).bytes().len() <= chip {
+                    return state.saving = Some(0);
+                }
+            }
+        }
+        if let Some((d, v)) = write {
+            state.cells[usize::from(d)] = v;
+        }
+        state.place = to;
+    }
+
+    /// "in DE, Dead. Else in RO: Include, Pending and Dead become Pending; Kept remains. Else Include."
+    fn exclude(&self, state: &mut State) {
+        let excludes = self
+            .commands
+            .iter()
+            .filter(|(_, c)| **c == Instruction::Exclude);
+        let number = excludes.take_while(|(at, _)| **at < state.place).count();
+        let is_in = |first: usize, cell: usize| {
+            self.sets[8 * number + first + cell / 64] >> (cell % 64) & 1 == 1
+        };
+        for cell in 0..self.cells {
+            state.marks[cell] = match (is_in(0, cell), is_in(4, cell), state.marks[cell]) {
+                (true, _, _) => Mark::Dead,
+                (false, true, Mark::Kept) => Mark::Kept,
+                (false, true, _) => Mark::Pending,
+                (false, false, _) => Mark::Include,
+            };
+        }
+    }
+}
+
+fn opcode(command: Instruction) -> u8 {
+    use crate::program::*;
+    match command {
+        Instruction::End => END,
+        Instruction::Set { .. } => SET,
+        Instruction::Copy { .. } => COPY,
+        Instruction::Add { .. } => ADD,
+        Instruction::Sub { .. } => SUB,
+        Instruction::Div { .. } => DIV,
+        Instruction::Read { .. } => READ,
+        Instruction::Emit { .. } => EMIT,
+        Instruction::Jump { .. } => JUMP,
+        Instruction::Less { .. } => LESS,
+        Instruction::Get { .. } => GET,
+        Instruction::Put { .. } => PUT,
+        Instruction::Exclude => EXCLUDE,
+        Instruction::Checkpoint => CHECKPOINT,
+    }
+}
