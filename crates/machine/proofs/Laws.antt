@@ -20,7 +20,9 @@ use Rattle.machine.specs.declared.Ended.{Ended}
 use Rattle.machine.specs.declared.Ended.the-variants.{Stopped, Spent, NoReading, BufferFull}
 use Rattle.machine.specs.State.{Env, Machine}
 use Rattle.machine.specs.Step.{stepOf, executedOf, effectAt, dueOpcode, givenBy, takenBy, givenOf, takenOf}
+use Rattle.machine.specs.Ready.{Ready, Good}
 use Rattle.machine.specs.Run.{Call, Finish, exitBefore, stepped, runOf, started}
+use Rattle.machine.proofs.Keeping.{good-step}
 
 -- ---- the four exits
 
@@ -229,6 +231,14 @@ module _ (e : Env) (ρ : List ℤ) (room : ℕ) where
       run-ind (λ left c. (c .steps ≤ runOf e ρ room left c .call .steps) × (runOf e ρ room left c .call .steps ≤ c .steps + left))
       (λ left c x h. rw (run-ends left c h) (omega arith, omega arith))
       (λ left c g h. rw (makes-step left c (exit-none g)) (omega (arith, h .0), omega (arith, h .1)))
+
+  -- a sound state stays sound
+  pub good-run : {table : List ℕ} → Ready e table → (left : ℕ) (c : Call) → Good (e .program) (c .machine) → Good (e .program) (runOf e ρ room left c .call .machine)
+  unfolding stepped
+  good-run r =
+      run-ind (λ left c. Good (e .program) (c .machine) → Good (e .program) (runOf e ρ room left c .call .machine))
+      (λ left c x h k. rw (run-ends left c h) k)
+      (λ left c g h k. rw (makes-step left c (exit-none g)) (h (good-step (getD ρ (c .taken) (pos 0)) r k (g .runs))))
 
   -- and all of it where it is spent
   pub spent-all : (left : ℕ) (c : Call) → runOf e ρ room left c .ended ≡ Spent → runOf e ρ room left c .call .steps ≡ c .steps + left

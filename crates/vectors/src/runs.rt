@@ -1,6 +1,6 @@
 // Rows about runs. A row gives how the run ended (1 to 3 a stop and its kind, 4 budget spent, 5 no reading left, 6
 // output buffer full, or `refused` and the number), its steps, readings taken and outputs written, the
-// outputs, and the bytes of the chip; for document 001's programs, the number of cells in each save.
+// outputs, and the bytes of the chip; for document 001's programs, the number of its cells and of those in each save.
 use libc::STDOUT_FILENO;
 use machine::Ended;
 use machine::Regs;
@@ -238,7 +238,7 @@ fn refusals() {
 
 // How many cells each save on the chip holds.
 fn sizes(chip: &[u8]) {
-    io::write_all(STDOUT_FILENO, b" saves");
+    io::write_all(STDOUT_FILENO, b" cells");
     let mut at: usize = 0;
     let mut cells: u64 = 0;
     while at + 14 <= chip.len() {
@@ -279,6 +279,8 @@ pub fn program(name: &[u8], plan: &[u8], readings: &[i32]) {
     number(r.taken as u64);
     number(r.written as u64);
     values(&outputs);
+    io::write_all(STDOUT_FILENO, b" saves of");
+    number(instruction::byte_at(plan, 0) as u64 + 1);
     sizes(&chip);
     io::write_all(STDOUT_FILENO, b"\n");
 }

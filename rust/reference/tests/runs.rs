@@ -186,8 +186,9 @@ fn program(name: &str, text: &str, readings: &[i32]) -> String {
         1_000_000,
     );
     let held = read(&plan, &chip).expect("the engine leaves a sound chip");
+    let all = format!("saves of {} cells", usize::from(plan[0]) + 1);
     let sizes = held.saves.iter().map(|save| save.records.len());
-    format!("{name} run:") + &answer(ran, &mut outputs) + &list("saves", sizes) + "\n"
+    format!("{name} run:") + &answer(ran, &mut outputs) + &list(&all, sizes) + "\n"
 }
 
 fn programs() -> [String; 3] {
