@@ -5,21 +5,9 @@ use differential::plans::{mutated, reversed, valid, woven};
 use differential::rng::Rng;
 use differential::{run, Ran};
 use reference::analyse;
-use reference::machine::{self, Ended, State, Stop, SET_WORDS};
+use reference::machine::{self, State, SET_WORDS};
 
 const BEFORE: u32 = 0xA5A5_A5A5;
-
-/// How a run ended, as a number.
-fn number(ended: Ended) -> u32 {
-    match ended {
-        Ended::Stopped(Stop::Ended) => 1,
-        Ended::Stopped(Stop::Divisor) => 2,
-        Ended::Stopped(Stop::CountFull) => 3,
-        Ended::Spent => 4,
-        Ended::NoReading => 5,
-        Ended::BufferFull => 6,
-    }
-}
 
 /// Asserts that library and reference agree on a run, and gives its answer.
 #[track_caller]
@@ -54,7 +42,7 @@ fn agreed(
             expected_outputs[..ran.given.len()].copy_from_slice(&ran.given);
             Ran {
                 result: 0,
-                ended: number(ran.ended),
+                ended: ran.ended.number(),
                 steps: ran.steps,
                 taken: ran.taken as u64,
                 written: ran.given.len() as u64,

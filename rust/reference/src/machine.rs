@@ -70,6 +70,21 @@ pub enum Ended {
     BufferFull,
 }
 
+impl Ended {
+    /// It as a number of the C interface: 1 to 3 the kinds of stop, 4 budget spent, 5 no reading left, 6 output buffer
+    /// full.
+    pub fn number(self) -> u32 {
+        match self {
+            Ended::Stopped(Stop::Ended) => 1,
+            Ended::Stopped(Stop::Divisor) => 2,
+            Ended::Stopped(Stop::CountFull) => 3,
+            Ended::Spent => 4,
+            Ended::NoReading => 5,
+            Ended::BufferFull => 6,
+        }
+    }
+}
+
 /// The answer of a run: what ended it, and this call's steps, readings taken and outputs.
 #[derive(Clone, Debug, PartialEq, Eq)]
 pub struct Ran {

@@ -1,19 +1,14 @@
 //! The reference machine on document 01's rows about runs, and on document 001's three programs.
 
+mod common;
+
 use reference::analyse;
 use reference::journal::{read, ERASED};
 use reference::machine::{run, Ended, Mark, Ran, State, Stop, SET_WORDS};
 
-const SMALL: &[u8] = include_bytes!("../../../examples/small.plan");
+use common::plan;
 
-/// The bytes of a plan written as text: hexadecimal, and comment from `#` to the line's end.
-fn plan(text: &str) -> Vec<u8> {
-    text.lines()
-        .flat_map(|line| line.split('#').next())
-        .flat_map(str::split_whitespace)
-        .map(|byte| u8::from_str_radix(byte, 16).expect("two hexadecimal digits"))
-        .collect()
-}
+const SMALL: &[u8] = include_bytes!("../../../examples/small.plan");
 
 /// The words found for a plan, as many as run wants.
 fn sets(plan: &[u8]) -> Vec<u64> {

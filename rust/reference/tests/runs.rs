@@ -1,24 +1,19 @@
 //! The rows about runs that `crates/vectors` prints: its expected output, in `crates/vectors/stdout`, is what the
 //! reference answers of the same runs.
 
+mod common;
+
 use std::fmt::{Display, Write};
 use std::fs;
 use std::path::Path;
 
 use reference::analyse;
 use reference::journal::{read, ERASED};
-use reference::machine::{run, Ended, Ran, State, Stop, SET_WORDS};
+use reference::machine::{run, Ran, State, SET_WORDS};
+
+use common::plan;
 
 const SMALL: &[u8] = include_bytes!("../../../examples/small.plan");
-
-/// The bytes of a plan written as text: hexadecimal, and comment from `#` to the line's end.
-fn plan(text: &str) -> Vec<u8> {
-    text.lines()
-        .flat_map(|line| line.split('#').next())
-        .flat_map(str::split_whitespace)
-        .map(|byte| u8::from_str_radix(byte, 16).expect("two hexadecimal digits"))
-        .collect()
-}
 
 fn list<T: Display>(name: &str, numbers: impl IntoIterator<Item = T>) -> String {
     let mut text = format!(" {name}");
@@ -34,14 +29,7 @@ fn answer(ran: Result<Ran, u32>, outputs: &mut [i32]) -> String {
         Err(number) => format!(" refused {number} 0 0 0"),
         Ok(ran) => {
             outputs[..ran.given.len()].copy_from_slice(&ran.given);
-            let ended = match ran.ended {
-                Ended::Stopped(Stop::Ended) => 1,
-                Ended::Stopped(Stop::Divisor) => 2,
-                Ended::Stopped(Stop::CountFull) => 3,
-                Ended::Spent => 4,
-                Ended::NoReading => 5,
-                Ended::BufferFull => 6,
-            };
+            let ended = ran.ended.number();
             format!(" {ended} {} {} {}", ran.steps, ran.taken, ran.given.len())
         }
     };
