@@ -95,6 +95,12 @@ region-in p e s h o (onward {o = x} r n f) =
     (λ t. absurd (n (eqb-true _ _ t)))
     (λ _ k. all-at (λ q. among q s) (successors p x) o k f)
 
+-- where such a list has no CHECKPOINT, the region has none
+pub no-save : (p : List ℕ) (e : ℕ) (s : List ℕ) → closedRegion p e s ≡ true → allOf (λ o. not (eqb (byte p o) 0x0E)) s ≡ true
+    → (o : ℕ) → Region p e o → ¬ (byte p o ≡ 0x0E)
+no-save p e s region h o w is =
+    clash (eqb (byte p o) 0x0E) (eq-eqb _ _ is) (not-true _ (all-at (λ o. not (eqb (byte p o) 0x0E)) s o h (region-in p e s region o w)))
+
 -- a CHECKPOINT of the list r is a start outside the list s
 abbrev savesOutside : List ℕ → List ℕ → ℕ → Bool
 savesOutside p s o = not (eqb (byte p o) 0x0E) || (isStart p o && not (among o s))
@@ -114,22 +120,12 @@ module _ (p : List ℕ) (e : ℕ) (r : List ℕ) (region : closedRegion p e r �
         (λ _ t. let b = and-both (isStart p x) (not (among x s)) t in dead-at p a c s closed x (b .0) (not-true _ (b .1)));
   }
 
-  -- no cell is in DE where the region has no CHECKPOINT
-  pub no-save : allOf (λ o. not (eqb (byte p o) 0x0E)) r ≡ true → ¬ DE p e c
-  no-save h d =
-      clash (eqb (byte p (d .place)) 0x0E) (eq-eqb _ _ (d .saves))
-      (not-true _ (all-at (λ o. not (eqb (byte p o) 0x0E)) r (d .place) h (region-in p e r region (d .place) (d .within))))
-
   -- cell c is in RO: no instruction of the region may write it
   pub ro-by : allOf (λ o. eqb (mayDef (instructionAt p o) c) 0) r ≡ true → c < cellsOf p → RO p e c
   ro-by h below = record {
     exists = below;
     kept = λ o g. eqb-true _ _ (all-at (λ o. eqb (mayDef (instructionAt p o) c) 0) r o h (region-in p e r region o g));
   }
-
--- a live cell at a CHECKPOINT of the region is not in DE
-pub not-de : (p : List ℕ) (e c o : ℕ) → Region p e o → byte p o ≡ 0x0E → Live p c o → ¬ DE p e c
-not-de p e c o r k l d = d .dead o r k l
 
 -- a cell that an instruction of the region may write is not in RO
 pub not-ro : (p : List ℕ) (e c o : ℕ) → Region p e o → mayDef (instructionAt p o) c ≡ 1 → ¬ RO p e c

@@ -126,10 +126,15 @@ passes (checked.Refused n) short h = absurd (let z : _≡_ {A = ℕ} 0 1 = cc in
 passes (checked.Program cells instructions marks) true h = absurd (let z : _≡_ {A = ℕ} 0 1 = cc in omega arith)
 passes (checked.Program cells instructions marks) false h = cc
 
-pub analysed-accepted : {p d₀ s₀ d s : List ℕ} {cells instructions marks : ℕ} → Analyses p d₀ s₀ d s (Sets cells instructions marks)
+-- those of a program with these numbers
+pub sets-accepted : (p : List ℕ) (dead sets : ℕ) {cells instructions marks : ℕ} → Sets cells instructions marks ≡ analyseOf p dead sets
     → Accepted p cells instructions marks
 unfolding analyseOf
-analysed-accepted {p} x = accepted p (passes (checkOf p) _ (x .answer))
+sets-accepted p dead sets h = accepted p (passes (checkOf p) _ h)
+
+pub analysed-accepted : {p d₀ s₀ d s : List ℕ} {cells instructions marks : ℕ} → Analyses p d₀ s₀ d s (Sets cells instructions marks)
+    → Accepted p cells instructions marks
+analysed-accepted {p} {d₀} {s₀} x = sets-accepted p (length d₀) (length s₀) (x .answer)
 
 module _ {p d₀ s₀ d s d′ s′ : List ℕ} (fits-d : Words d) (fits-s : Words s) (fits-d′ : Words d′) (fits-s′ : Words s′) where
   same-buffers : (r : Analysed) → Analyses p d₀ s₀ d s r → Analyses p d₀ s₀ d′ s′ r → (d ≡ d′) × (s ≡ s′)

@@ -1,5 +1,5 @@
--- Document 01's rows about the sets as one table, marked (M) or said in its text: a row is a program, a question and the cells that answer it. One test of the table,
--- computed, shows that every row holds.
+-- What document 01's text says of the sets of given programs, as a table of rows (specs/Rows.antt); its rows marked (M) are in the table of crate `restart`. One test of
+-- a table, computed, shows that every row holds.
 -- Assumes nothing.
 use mathlib.Core.Path.{_≡_, refl}
 use mathlib.Core.List.{List, [], _∷_}
@@ -18,35 +18,14 @@ use Rattle.program.specs.declared.Checked.{Checked}
 use Rattle.program.specs.declared.Checked.the-variants.{Program, Refused}
 use Rattle.program.proofs.Tests.{bool-cases, clash, and-both, or-cases}
 use Rattle.program.proofs.Accepted.{Accepted, accepted}
-use Rattle.program.proofs.Examples.{small}
 use Rattle.graph.specs.Tables.{Passed}
-use Rattle.analysis.specs.Paths.{Dead, DE, RO}
-use Rattle.analysis.proofs.Certificates.{allOf, all-at, closedLive, dead-at, closedRegion, de-by, no-save, ro-by, not-de, not-ro}
+use Rattle.analysis.specs.Paths.{Live, LiveSave, unsaved, live-at, Written}
+use Rattle.analysis.specs.Rows.{Question, deadBefore, deOf, roOf, Row, row, In, Holds}
+use Rattle.analysis.proofs.Certificates.{allOf, all-at, closedLive, dead-at, closedRegion, de-by, no-save, ro-by}
+use Rattle.analysis.proofs.Fixed.{de-apart, ro-apart}
 use Rattle.analysis.proofs.Rounds.{someOf, some-at, liveOf, live-found, regionOf, region-found}
 
--- ---- rows
-
--- the cells that are dead before offset o, and DE and RO of the EXCLUDE at e
-pub data Question : Type 0 where
-  deadBefore : (o : ℕ) → Question
-  deOf : (e : ℕ) → Question
-  roOf : (e : ℕ) → Question
-
-pub record Row : Type 0 where
-  pub program : List ℕ
-  pub asks : Question
-  pub cells : List ℕ
-
--- cell c is in the set that is asked for
-abbrev pub In : List ℕ → Question → ℕ → Type 0
-In p (deadBefore o) c = Dead p c o
-In p (deOf e) c = DE p e c
-In p (roOf e) c = RO p e c
-
--- the row's cells are those of the set, and no others
-abbrev pub Holds : Row → Type 0
-Holds r = (c : ℕ) → (among c (r .cells) ≡ true → In (r .program) (r .asks) c) × (among c (r .cells) ≡ false → ¬ In (r .program) (r .asks) c)
-
+-- the cells of a set exist
 in-exists : (p : List ℕ) (q : Question) (c : ℕ) → In p q c → c < cellsOf p
 in-exists p (deadBefore o) c h = h .exists
 in-exists p (deOf e) c h = h .exists
@@ -69,13 +48,13 @@ abbrev defines : List ℕ → ℕ → ℕ → ℕ → Bool
 defines p c v o = eqb (mayDef (instructionAt p o) c) v
 
 -- what shows that a cell is in the set
-abbrev shownIn : List ℕ → Question → ℕ → Bool
+abbrev pub shownIn : List ℕ → Question → ℕ → Bool
 shownIn p (deadBefore o) c = (isStart p o && closedLive p c (liveOf p c)) && not (among o (liveOf p c))
 shownIn p (deOf e) c =
     (closedRegion p e (regionOf p e) && closedLive p c (liveOf p c)) && (someOf (saves p) (regionOf p e) && allOf (deadSave p c) (regionOf p e))
 shownIn p (roOf e) c = closedRegion p e (regionOf p e) && allOf (defines p c 0) (regionOf p e)
 
-shown-in : (p : List ℕ) {m n k : ℕ} → Accepted p m n k → (q : Question) (c : ℕ) → c < cellsOf p → shownIn p q c ≡ true → In p q c
+pub shown-in : (p : List ℕ) {m n k : ℕ} → Accepted p m n k → (q : Question) (c : ℕ) → c < cellsOf p → shownIn p q c ≡ true → In p q c
 shown-in p a (deadBefore o) c l h =
     let x = and-both _ _ h in
     let y = and-both _ _ (x .0) in
@@ -88,24 +67,36 @@ shown-in p a (deOf e) c l h =
     de-by p e (regionOf p e) (y .0) c a (liveOf p c) (y .1) (z .1) l (s .0) (region-found p e (s .0) (s .1)) (eqb-true _ _ (s .2))
 shown-in p a (roOf e) c l h = let x = and-both _ _ h in ro-by p e (regionOf p e) (x .0) c (x .1) l
 
--- and what shows that it is not
-abbrev shownOut : List ℕ → Question → ℕ → Bool
+-- what keeps a cell out of the set: a path or an instruction
+abbrev pub Out : List ℕ → Question → ℕ → Type 0
+Out p (deadBefore o) c = Live p c o
+Out p (deOf e) c = LiveSave p e c
+Out p (roOf e) c = Written p e c
+
+-- a cell of the set is not kept out
+in-not-out : (p : List ℕ) (q : Question) (c : ℕ) → In p q c → ¬ Out p q c
+in-not-out p (deadBefore o) c d = d .unread
+in-not-out p (deOf e) c d = de-apart d
+in-not-out p (roOf e) c d = ro-apart d
+
+-- and what shows that it is kept out
+abbrev pub shownOut : List ℕ → Question → ℕ → Bool
 shownOut p (deadBefore o) c = among o (liveOf p c)
 shownOut p (deOf e) c = someOf (liveSave p c) (regionOf p e) || (closedRegion p e (regionOf p e) && allOf (λ o. not (saves p o)) (regionOf p e))
 shownOut p (roOf e) c = someOf (defines p c 1) (regionOf p e)
 
-shown-out : (p : List ℕ) (q : Question) (c : ℕ) → shownOut p q c ≡ true → In p q c → ⊥
-shown-out p (deadBefore o) c h d = d .unread (live-found p c o h)
-shown-out p (deOf e) c h d =
+pub shown-out : (p : List ℕ) (q : Question) (c : ℕ) → shownOut p q c ≡ true → Out p q c
+shown-out p (deadBefore o) c h = live-found p c o h
+shown-out p (deOf e) c h =
     or-cases _ _ h
     (λ t.
     let s = some-at (liveSave p c) (regionOf p e) t in
     let x = and-both _ _ (s .2) in
-    not-de p e c (s .0) (region-found p e (s .0) (s .1)) (eqb-true _ _ (x .0)) (live-found p c (s .0) (x .1)) d)
-    (λ _ t. let x = and-both _ _ t in no-save p e (regionOf p e) (x .0) c (x .1) d)
-shown-out p (roOf e) c h d =
+    live-at (s .0) (region-found p e (s .0) (s .1)) (eqb-true _ _ (x .0)) (live-found p c (s .0) (x .1)))
+    (λ _ t. let x = and-both _ _ t in unsaved (no-save p e (regionOf p e) (x .0) (x .1)))
+shown-out p (roOf e) c h =
     let s = some-at (defines p c 1) (regionOf p e) h in
-    not-ro p e c (s .0) (region-found p e (s .0) (s .1)) (eqb-true _ _ (s .2)) d
+    record { place = s .0; within = region-found p e (s .0) (s .1); writes = eqb-true _ _ (s .2) }
 
 -- check passes the program
 abbrev passes : Checked → Bool
@@ -117,11 +108,11 @@ passed p (Program cells instructions marks) e h = record { cells = cells; instru
 passed p (Refused n) e h = clash false h refl
 
 -- each number below n passes it
-abbrev eachBelow : (ℕ → Bool) → ℕ → Bool
+abbrev pub eachBelow : (ℕ → Bool) → ℕ → Bool
 eachBelow f zero = true
 eachBelow f (suc n) = f n && eachBelow f n
 
-below-at : (f : ℕ → Bool) (n c : ℕ) → eachBelow f n ≡ true → c < n → f c ≡ true
+pub below-at : (f : ℕ → Bool) (n c : ℕ) → eachBelow f n ≡ true → c < n → f c ≡ true
 below-at f zero c h l = absurd (omega arith)
 below-at f (suc n) c h l =
     let b = and-both (f n) (eachBelow f n) h in
@@ -147,7 +138,7 @@ row-holds r h c =
       (λ t.
           let l : c < cellsOf p = ltb-true _ _ (all-at (λ x. ltb x (cellsOf p)) (r .cells) c (y .1) t) in
           shown-in p a (r .asks) c l (rw t at (at l))),
-      (λ t d. shown-out p (r .asks) c (rw t at (at (in-exists p (r .asks) c d))) d),
+      (λ t d. in-not-out p (r .asks) c d (shown-out p (r .asks) c (rw t at (at (in-exists p (r .asks) c d))))),
     )
 
 abbrev pub right : List Row → Bool
@@ -165,21 +156,10 @@ all-hold (r ∷ rs) h = let x = and-both (rowRight r) (right rs) h in (row-holds
 
 -- ---- the table
 
-abbrev row : List ℕ → Question → List ℕ → Row
-row p q cs = record { program = p; asks = q; cells = cs }
-
 abbrev pub rows : List Row
 rows =
-    -- (M) "15 dead 1 2 fixed 2 saved 0"
-    row small (deOf 15) (1 ∷ 2 ∷ [])
-    ∷ row small (roOf 15) (2 ∷ [])
-    -- (M) "dead before offset 9: cell 2 only"
-    ∷ row small (deadBefore 9) (2 ∷ [])
-    -- (M) "`00 0D 01`: DE empty, RO cell 0"
-    ∷ row (0x00 ∷ 0x0D ∷ 0x01 ∷ []) (deOf 1) []
-    ∷ row (0x00 ∷ 0x0D ∷ 0x01 ∷ []) (roOf 1) (0 ∷ [])
     -- "ADD 0 0 1 keeps cell 0 live"; "Everything is dead at END"
-    ∷ row (0x01 ∷ 0x04 ∷ 0 ∷ 0 ∷ 1 ∷ 0x01 ∷ []) (deadBefore 1) []
+    row (0x01 ∷ 0x04 ∷ 0 ∷ 0 ∷ 1 ∷ 0x01 ∷ []) (deadBefore 1) []
     ∷ row (0x01 ∷ 0x04 ∷ 0 ∷ 0 ∷ 1 ∷ 0x01 ∷ []) (deadBefore 5) (0 ∷ 1 ∷ [])
     -- "PUT must write nothing": cell 0 of its table is live before it, since EMIT reads it
     ∷ row (0x02 ∷ 0x0C ∷ 0 ∷ 2 ∷ 2 ∷ 2 ∷ 0x08 ∷ 0 ∷ 0x01 ∷ []) (deadBefore 1) (1 ∷ [])

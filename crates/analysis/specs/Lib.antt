@@ -1,3 +1,4 @@
 pub mod Paths
 pub mod Analyse
 pub mod Search
+pub mod Rows

@@ -12,14 +12,8 @@ use Rattle.journal.specs.declared.Commit.{Commit}
 use Rattle.journal.specs.Format.{Checkpoint, images}
 use Rattle.journal.specs.Reading.{Facts, first, Rising, lastOf, Whole, Reading, Torn, Damaged}
 use Rattle.journal.proofs.Decoding.{same-saves}
+pub use Rattle.journal.specs.Shape.{Shape}
 use Rattle.journal.proofs.Torn.{Cut, part-begins, part-less, nested, never-whole, erased-not-whole, ff-join, Trimmed, trim}
-
--- whole checkpoints, nothing or a part of one, and FF bytes
-pub record Shape (F : Facts) (chip : List ℕ) (js : List Checkpoint) (q : List ℕ) : Type 0 where
-  pub free : ℕ
-  pub rising : Rising F first js
-  pub cut : Cut F (lastOf first js) q
-  pub bytes : chip ≡ images js ++ q ++ replicate free 0xFF
 
 -- an erased chip has no checkpoint and nothing torn
 pub erased-shape : {F : Facts} (n : ℕ) → Shape F (replicate n 0xFF) [] []
@@ -88,6 +82,16 @@ cut-less {F} {b} q u c = ⊎-elim (λ e. inl (nothing q e)) (λ p. inr (part-les
     nothing : (l : List ℕ) → l ++ u ≡ [] → l ≡ []
     nothing [] e = refl
     nothing (x ∷ l) e = absurd (cons-ne-nil _ _ e)
+
+-- where q does not end in FF, the shape is the reading itself
+pub shape-whole : {F : Facts} {chip : List ℕ} {js : List Checkpoint} {q : List ℕ} → Shape F chip js q → Trimmed q → Reading F chip js q
+shape-whole {q = q} s t = record {
+  erased = s .free;
+  sound = s .rising;
+  bytes = s .bytes;
+  no-more = cut-not-whole q (s .free) (s .cut);
+  trimmed = t;
+}
 
 pub shape-reads : {F : Facts} {chip : List ℕ} {js : List Checkpoint} {q : List ℕ} → Shape F chip js q → Reads F chip js q
 shape-reads {F} {chip} {js} {q} s =

@@ -1,9 +1,10 @@
 -- Laws of the answer of `scan`. A journal has one answer (`scan-fixed`): damaged where the chip is damaged (`damaged-found`), and what the engine leaves reads
--- back as exactly its checkpoints (`shape-found`), an erased chip as none (`erased-found`). A program's own table holds the program's facts (`facts-same`).
+-- back as exactly its checkpoints (`shape-found`), an erased chip as none (`erased-found`). What is found lies within the chip
+-- (`within`). A program's own table holds the program's facts (`facts-same`).
 -- Assumes nothing.
 use mathlib.Core.Path.{_≡_, refl, sym, _∙_, ap, subst}
 use mathlib.Core.Bool.{Bool, true, false, cond}
-use mathlib.Core.List.{List}
+use mathlib.Core.List.{List, _++_}
 use mathlib.Core.Logic.{⊎-elim}
 use Prim.Native.Nat.{ℕ, _+_, _≤_, _<_}
 use native.Mathlib.Omega.{arith}
@@ -71,6 +72,19 @@ scan-fixed F chip (scanned.Found end torn last) (scanned.Found end′ torn′ la
 pub damaged-found : {F : Facts} {chip : List ℕ} (a : Scanned) (v : List ℕ) → Damaged F chip → Scans F chip a v → a ≡ scanned.Damaged
 damaged-found scanned.Damaged v d x = refl
 damaged-found (scanned.Found end torn last) v d x = absurd (apart d x)
+
+-- the whole saves and the torn bytes are part of the chip
+pub within : {F : Facts} {chip : List ℕ} {end torn : ℕ} {last : Commit} {values : List ℕ} → Taken F chip end torn last values → end + torn ≤ length chip
+within t =
+    let ff = replicate {A = ℕ} (t .reading .erased) 0xFF in
+    omega (
+      arith,
+      t .end-is,
+      t .torn-is,
+      ap length (t .reading .bytes),
+      length-append (images (t .saves) ++ t .rest) ff,
+      length-append (images (t .saves)) (t .rest),
+    )
 
 -- ---- what the engine leaves
 

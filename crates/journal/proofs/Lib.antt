@@ -1,5 +1,5 @@
--- The theorems over bytes, the laws of the answer of `scan` and of a checkpoint that is written, which the crates above cite, and document 01's row about the
--- first save; below, what they and the proofs of the functions use.
+-- The theorems over bytes, the laws of the answer of `scan` and of a checkpoint that is written, which the crates above cite; below, what they and the proofs
+-- of the functions use.
 -- Assumes nothing.
 pub mod Decoding
 pub mod Torn
@@ -7,7 +7,6 @@ pub mod Back
 pub mod Storing
 pub mod Written
 pub mod Fixed
-pub mod Examples
 mod Images
 mod Meeting
 mod Numbers

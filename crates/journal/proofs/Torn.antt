@@ -16,18 +16,7 @@ use Rattle.journal.specs.declared.Commit.{Commit}
 use Rattle.journal.specs.Format.{Checkpoint, image}
 use Rattle.journal.specs.Reading.{Facts, Sound, Begins, Whole}
 use Rattle.journal.proofs.Decoding.{unique, image-end, image-some}
-
--- q is cut short of the image of a checkpoint that is sound after b
-pub record Part (F : Facts) (b : Commit) (q : List ℕ) : Type 0 where
-  pub save : Checkpoint
-  pub sound : Sound F b save
-  pub more : List ℕ
-  pub bytes : image save ≡ q ++ more
-  pub short : 0 < length more
-
--- what a stopped engine leaves behind the whole checkpoints: nothing, or a part of one
-abbrev pub Cut : Facts → Commit → List ℕ → Type 0
-Cut F b q = (q ≡ []) ⊎ Part F b q
+pub use Rattle.journal.specs.Shape.{Part, Cut}
 
 -- a part is a beginning, and a beginning that is not whole is a part
 pub part-begins : {F : Facts} {b : Commit} {q : List ℕ} → Part F b q → Begins F b q

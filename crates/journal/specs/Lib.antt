@@ -3,3 +3,4 @@ pub mod Reading
 pub mod Answer
 pub mod Parts
 pub mod Writing
+pub mod Shape

@@ -57,7 +57,7 @@ module _ (p : List ℕ) (words : ℕ) (m : Machine) where
     late-none s d = rw (le-ltb _ _ a, ← is, s, le-ltb _ _ d)
 
   -- none of them
-  late-left : 0 ≡ lateRefusal p words m → (512 ≤ words) × (soundOf p m ≡ true) × (length (m .journal) ≤ 65536)
+  pub late-left : 0 ≡ lateRefusal p words m → (512 ≤ words) × (soundOf p m ≡ true) × (length (m .journal) ≤ 65536)
   unfolding lateRefusal
   late-left h =
       bool-cases (ltb words 512)

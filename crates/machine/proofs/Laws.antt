@@ -219,7 +219,7 @@ module _ (e : Env) (ρ : List ℤ) (room : ℕ) where
   due-step left c s r w = exit-none (record { runs = s; some-left = omega arith; reading = λ d t. omega (arith, r d, t); place = λ d t. omega (arith, w d, t) })
 
   -- what holds at an exit and is kept by a step holds of every run
-  run-ind : (Q : ℕ → Call → Type 0) → ((left : ℕ) (c : Call) (x : Ended) → Exits (e .program) left (length ρ) room c x → Q left c)
+  pub run-ind : (Q : ℕ → Call → Type 0) → ((left : ℕ) (c : Call) (x : Ended) → Exits (e .program) left (length ρ) room c x → Q left c)
       → ((left : ℕ) (c : Call) → Goes (e .program) (suc left) (length ρ) room c → Q left (stepped e ρ c) → Q (suc left) c) → (left : ℕ) (c : Call) → Q left c
   run-ind Q end turn zero c = exit-cases (λ g. absurd (omega (arith, g .some-left))) (end zero c)
   run-ind Q end turn (suc left) c = exit-cases (λ g. turn left c g (run-ind Q end turn left (stepped e ρ c))) (end (suc left) c)
@@ -231,6 +231,19 @@ module _ (e : Env) (ρ : List ℤ) (room : ℕ) where
       run-ind (λ left c. (c .steps ≤ runOf e ρ room left c .call .steps) × (runOf e ρ room left c .call .steps ≤ c .steps + left))
       (λ left c x h. rw (run-ends left c h) (omega arith, omega arith))
       (λ left c g h. rw (makes-step left c (exit-none g)) (omega (arith, h .0), omega (arith, h .1)))
+
+  -- before the next step stands the exit that it answers, with what is left of its budget
+  pub run-exit : (left : ℕ) (c : Call)
+      → Exits (e .program) (left - (runOf e ρ room left c .call .steps - c .steps)) (length ρ) room (runOf e ρ room left c .call) (runOf e ρ room left c .ended)
+  unfolding stepped
+  run-exit =
+      run-ind
+      (λ left c. Exits (e .program) (left - (runOf e ρ room left c .call .steps - c .steps)) (length ρ) room (runOf e ρ room left c .call) (runOf e ρ room left c .ended))
+      (λ left c x h. let z : left - (c .steps - c .steps) ≡ left = omega arith in rw (run-ends left c h, z) h)
+      (λ left c g h.
+      let last = runOf e ρ room left (stepped e ρ c) .call in
+      let z : suc left - (last .steps - c .steps) ≡ left - (last .steps - suc (c .steps)) = omega (arith, steps-within left (stepped e ρ c) .0) in
+      rw (makes-step left c (exit-none g), z) h)
 
   -- a sound state stays sound
   pub good-run : {table : List ℕ} → Ready e table → (left : ℕ) (c : Call) → Good (e .program) (c .machine) → Good (e .program) (runOf e ρ room left c .call .machine)
@@ -397,6 +410,32 @@ module _ (e : Env) (ρ : List ℤ) (room₁ room₂ : ℕ) (most : room₁ ≤ r
         let z : a + 0 ≡ a = omega arith in
         rw z at (unchanged e ρ ρ room₁ room₂ (λ c. length (c .given) ≤ room₁) first-places 0 a c given (λ s. refl) (λ r. refl) (λ w. absurd (h w)))
 
+-- ---- readings and output places in stretches
+
+module _ (e : Env) (ρ : List ℤ) (k room₁ room₂ : ℕ) (few : k ≤ length ρ) (most : room₁ ≤ room₂) where
+  -- the first of the readings and of the places serve like all
+  first-both : Follows e (take k ρ) ρ room₁ room₂ (λ c. (c .taken ≤ k) × (length (c .given) ≤ room₁))
+  first-both left c g h =
+      let w = first-places e (take k ρ) room₁ room₂ most left c g (h .1) in
+      let r = first-readings e ρ k room₂ few left c (w .0) (h .0) in
+      (r .0, r .1, (r .2, w .2))
+
+  module _ (a : ℕ) (c : Call) (taken : c .taken ≤ k) (given : length (c .given) ≤ room₁) where
+    -- the run over both, continued with all on what it left, is the run over all
+    pub stretch-both : runOf e ρ room₂ a c ≡ runOf e ρ room₂ (a - (runOf e (take k ρ) room₁ a c .call .steps - c .steps)) (runOf e (take k ρ) room₁ a c .call)
+    stretch-both =
+        let z : a + 0 ≡ a = omega arith in
+        rw z at (continued e (take k ρ) ρ room₁ room₂ (λ c. (c .taken ≤ k) × (length (c .given) ≤ room₁)) first-both 0 a c (taken, given))
+
+    -- and it is that run itself, where it lacks no reading and no place that there is
+    pub stretch-both-else : (runOf e (take k ρ) room₁ a c .ended ≡ NoReading → k ≡ length ρ) → (runOf e (take k ρ) room₁ a c .ended ≡ BufferFull → room₁ ≡ room₂)
+        → runOf e ρ room₂ a c ≡ runOf e (take k ρ) room₁ a c
+    stretch-both-else r w =
+        let z : a + 0 ≡ a = omega arith in
+        rw z at
+        (unchanged e (take k ρ) ρ room₁ room₂ (λ c. (c .taken ≤ k) × (length (c .given) ≤ room₁)) first-both 0 a c (taken, given) (λ s. refl)
+        (λ x. length-take-le k ρ few ∙ r x) w)
+
 -- ---- a run takes no more readings than there are, and gives no more outputs than there are places
 
 module _ (e : Env) (ρ : List ℤ) (room a : ℕ) (c : Call) where
@@ -459,7 +498,8 @@ module _ (e : Env) (ρ : List ℤ) (room : ℕ) (c : Call) (taken : c .taken ≤
   unfolding stepped
   step-onto d = ap (λ v. withReading e v (onto c d)) (sym (getD-drop (c .taken) ρ (d .taken) (pos 0))) ∙ reading-onto e _ c d
 
-  run-onto : (a : ℕ) (d : Call) → runOf e ρ room a (onto c d) ≡ finishOnto c (runOf e rest places a d)
+  -- a run from there on is the run over what is left, counted from there
+  pub run-onto : (a : ℕ) (d : Call) → runOf e ρ room a (onto c d) ≡ finishOnto c (runOf e (drop (c .taken) ρ) (room - length (c .given)) a d)
   run-onto =
       run-ind e rest places (λ a d. runOf e ρ room a (onto c d) ≡ finishOnto c (runOf e rest places a d))
       (λ a d x h. rw (run-ends e rest places a d h) (run-ends e ρ room a (onto c d) (exit-onto h)))

@@ -1,4 +1,5 @@
--- What the crates above cite: the laws of a run, the facts of a sound state, and that a step keeps it sound; below, what the proofs of the functions use.
+-- What the crates above cite: the laws of a run, the facts of a sound state, that a step keeps it sound, and what an accepted call relies on; below, what the
+-- proofs of the functions use.
 -- Assumes nothing.
 pub mod Laws
 pub mod Facts
@@ -7,6 +8,8 @@ pub mod Keeping
 pub mod Fetching
 pub mod Starting
 pub mod Along
+pub mod Tables
+pub mod Accepting
 mod Soundness
 mod Stepping
 mod Choosing

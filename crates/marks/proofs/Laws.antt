@@ -1,4 +1,4 @@
--- The marks by cell after an EXCLUDE and after a save's last byte; a mark and its byte fix each other; lengths stay, and bytes of marks stay bytes of marks.
+-- The marks by cell after an EXCLUDE, after recovery and after a save's last byte; a mark and its byte fix each other; lengths stay, and bytes of marks stay bytes of marks.
 -- The set that `stored_cells` gives has the cells of `storedCells`.
 -- Assumes nothing.
 use mathlib.Core.Path.{_≡_, refl, ap, _∙_}
@@ -11,7 +11,7 @@ use lib.Seq.{getD-set-same, getD-set-other}
 use Rattle.cellset.specs.Sets.{SetIs}
 use Rattle.cellset.specs.Members.{membersFrom, members}
 use Rattle.cellset.proofs.Bits.{le-or-lt}
-use Rattle.marks.specs.Marks.{byteOf, markOf, excluded, saved, mapBelow, inSet, excludedMarks, savedMarks, toStore, storedFrom, storedCells}
+use Rattle.marks.specs.Marks.{byteOf, markOf, excluded, recovered, saved, mapBelow, inSet, excludedMarks, recoveredMarks, savedMarks, toStore, storedFrom, storedCells}
 use Rattle.marks.specs.declared.Mark.{Mark}
 use Rattle.marks.specs.declared.Mark.the-variants.{Include, Pending, Kept, Dead}
 
@@ -96,6 +96,27 @@ excluded-length ws at n ms = map-length _ n ms
 pub excluded-small : (ws : List ℕ) (at n : ℕ) (ms : List ℕ) → ((c : ℕ) → getD ms c 0 ≤ 3) → (c : ℕ) → getD (excludedMarks ws at n ms) c 0 ≤ 3
 unfolding excludedMarks
 excluded-small ws at n ms = map-small _ n ms
+
+-- recovery: the mark of each cell below n by the rule
+pub recovered-in : (ws : List ℕ) (at n : ℕ) (ms : List ℕ) (c : ℕ) → c < n → c < length ms
+    → markOf (getD (recoveredMarks ws at n ms) c 0) ≡ recovered (inSet ws at c) (inSet ws (at + 4) c)
+unfolding recoveredMarks
+recovered-in ws at n ms c h l = ap markOf (map-in _ n ms c h l) ∙ mark-byte (recovered (inSet ws at c) (inSet ws (at + 4) c))
+
+-- the others remain
+pub recovered-out : (ws : List ℕ) (at n : ℕ) (ms : List ℕ) (c : ℕ) → n ≤ c → getD (recoveredMarks ws at n ms) c 0 ≡ getD ms c 0
+unfolding recoveredMarks
+recovered-out ws at n ms c h = map-out _ n ms c h
+
+-- the list stays as long as it is
+pub recovered-length : (ws : List ℕ) (at n : ℕ) (ms : List ℕ) → length (recoveredMarks ws at n ms) ≡ length ms
+unfolding recoveredMarks
+recovered-length ws at n ms = map-length _ n ms
+
+-- and its bytes are those of marks
+pub recovered-small : (ws : List ℕ) (at n : ℕ) (ms : List ℕ) → ((c : ℕ) → getD ms c 0 ≤ 3) → (c : ℕ) → getD (recoveredMarks ws at n ms) c 0 ≤ 3
+unfolding recoveredMarks
+recovered-small ws at n ms = map-small _ n ms
 
 -- a save's last byte: the mark of each cell below n by the rule
 pub saved-in : (n : ℕ) (ms : List ℕ) (c : ℕ) → c < n → c < length ms → markOf (getD (savedMarks n ms) c 0) ≡ saved (markOf (getD ms c 0))

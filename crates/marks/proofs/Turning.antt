@@ -1,4 +1,4 @@
--- One turn of the loops of `exclude` and of `keep`, on plain lists: the marks of one more cell are set.
+-- One turn of the loops of `exclude`, of `recover` and of `keep`, on plain lists: the marks of one more cell are set.
 -- Assumes nothing.
 use mathlib.Core.Path.{_≡_, refl, ap}
 use mathlib.Core.Bool.{Bool}
@@ -7,7 +7,7 @@ use Prim.Native.Nat.{ℕ, _+_}
 use native.Mathlib.Numerals.{add-one}
 use native.Mathlib.Omega.{arith}
 use lib.ListN.{getD, set}
-use Rattle.marks.specs.Marks.{byteOf, markOf, excluded, saved, mapBelow, inSet, excludedMarks, savedMarks}
+use Rattle.marks.specs.Marks.{byteOf, markOf, excluded, recovered, saved, mapBelow, inSet, excludedMarks, recoveredMarks, savedMarks}
 use Rattle.marks.specs.declared.Mark.{Mark}
 use Rattle.marks.proofs.Laws.{map-out}
 
@@ -28,6 +28,18 @@ pub excluded-turn : (ws : List ℕ) (at c : ℕ) (ms ms′ : List ℕ) {de ro : 
     → m ≡ markOf (getD ms′ c 0) → m′ ≡ excluded m de ro → b ≡ byteOf m′ → set ms′ c b ≡ excludedMarks ws at (c + 1) ms
 unfolding excludedMarks
 excluded-turn ws at c ms ms′ now de ro m m′ b = rw (b, m′, m, de, ro, now) (map-turn _ c ms)
+
+-- the same of `recover`
+pub recovered-first : (ws : List ℕ) (at : ℕ) (ms : List ℕ) → ms ≡ recoveredMarks ws at 0 ms
+unfolding recoveredMarks mapBelow
+recovered-first ws at ms = refl
+
+-- and its turn
+pub recovered-turn : (ws : List ℕ) (at c : ℕ) (ms ms′ : List ℕ) {de ro : Bool} {m : Mark} {b : ℕ}
+    → ms′ ≡ recoveredMarks ws at c ms → de ≡ inSet ws at c → ro ≡ inSet ws (at + 4) c → m ≡ recovered de ro → b ≡ byteOf m
+    → set ms′ c b ≡ recoveredMarks ws at (c + 1) ms
+unfolding recoveredMarks
+recovered-turn ws at c ms ms′ now de ro m b = rw (b, m, de, ro, now) (map-turn _ c ms)
 
 -- the same of `keep`
 pub saved-first : (ms : List ℕ) → ms ≡ savedMarks 0 ms

@@ -62,6 +62,10 @@ inSet ws at c = eqb (member ws at c) 1
 unfoldable pub excludedMarks : List ℕ → (at n : ℕ) → List ℕ → List ℕ
 excludedMarks ws at n ms = mapBelow (λ c m. excluded m (inSet ws at c) (inSet ws (at + 4) c)) n ms
 
+-- the marks of n cells as recovery finds them, by the sets of the last EXCLUDE
+unfoldable pub recoveredMarks : List ℕ → (at n : ℕ) → List ℕ → List ℕ
+recoveredMarks ws at n ms = mapBelow (λ c m. recovered (inSet ws at c) (inSet ws (at + 4) c)) n ms
+
 -- after a save's last byte
 unfoldable pub savedMarks : ℕ → List ℕ → List ℕ
 savedMarks n ms = mapBelow (λ c m. saved m) n ms

@@ -6,7 +6,7 @@ ghost use Prim.Native.Nat.{ℕ, _+_, _<_, _≤_};
 ghost use lib.ListN.{length};
 ghost use Rattle.cellset.specs.Bits.{bit};
 ghost use Rattle.cellset.specs.Sets.{SetIs};
-ghost use Rattle.marks.specs.Marks.{byteOf, markOf, excluded, saved, isStored, inSet, excludedMarks, savedMarks, toStore};
+ghost use Rattle.marks.specs.Marks.{byteOf, markOf, excluded, recovered, saved, isStored, inSet, excludedMarks, recoveredMarks, savedMarks, toStore};
 
 pub enum Mark {
     Include,
@@ -55,6 +55,19 @@ pub fn exclude_mark(m: Mark, de: bool, ro: bool) -> Mark
     }
 }
 
+// The mark that recovery gives a cell that is in DE or in RO.
+fn recovered_mark(de: bool, ro: bool) -> Mark
+    ensures { λ r. ⌜ r ≡ recovered de ro ⌝ }
+{
+    if de {
+        return Mark::Dead;
+    }
+    if ro {
+        return Mark::Kept;
+    }
+    Mark::Include
+}
+
 // The mark after a save that holds its cell, if it holds it.
 fn save_mark(m: Mark) -> Mark
     ensures { λ r. ⌜ r ≡ saved m ⌝ }
@@ -96,6 +109,20 @@ pub fn exclude(marks: &mut [u8; 256], ws: &[u64], at: usize, n: usize)
         let de = in_set(ws, at, c);
         let ro = in_set(ws, at + 4, c);
         marks[c] = to_byte(exclude_mark(from_byte(marks[c]), de, ro));
+        c += 1;
+    }
+}
+
+// Recovery: the marks of n cells by the DE and RO that stand in ws from index `at` on.
+pub fn recover(marks: &mut [u8; 256], ws: &[u64], at: usize, n: usize)
+    requires { ⌜ (n ≤ 256) × (at + 8 ≤ length (now ws)) ⌝ }
+    ensures { λ _. ⌜ now (marks .exit) ≡ recoveredMarks (now (ws .entry)) at n (now (marks .entry)) ⌝ }
+{
+    let mut c: usize = 0;
+    while c < n {
+        let de = in_set(ws, at, c);
+        let ro = in_set(ws, at + 4, c);
+        marks[c] = to_byte(recovered_mark(de, ro));
         c += 1;
     }
 }

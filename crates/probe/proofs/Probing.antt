@@ -2,10 +2,10 @@
 -- accepted chip are within its length.
 -- Assumes nothing.
 use Prim.Native.Nat.{ℕ, _+_, _≤_, _<_}
-use mathlib.Core.Path.{_≡_, refl, ap, subst}
-use mathlib.Core.List.{List, [], _∷_, _++_}
+use mathlib.Core.Path.{_≡_, refl, subst}
+use mathlib.Core.List.{List, [], _∷_}
 use native.Mathlib.Omega.{arith}
-use lib.ListN.{length, getD, replicate, length-append}
+use lib.ListN.{length, getD}
 use Rattle.instruction.specs.Bytes.{byte}
 use Rattle.program.specs.Places.{Decodes, Places}
 use Rattle.program.specs.Grounds.{Checks}
@@ -16,10 +16,9 @@ use Rattle.program.proofs.Grounds.{accepted-values}
 use Rattle.journal.specs.declared.Commit.{Commit}
 use Rattle.journal.specs.declared.Scanned.{Scanned}
 use Rattle.journal.specs.declared.Scanned.the-variants as scanned
-use Rattle.journal.specs.Format.{images}
 use Rattle.journal.specs.Reading.{Facts, factsOf}
-use Rattle.journal.specs.Answer.{factsIn, Taken, Scans}
-use Rattle.journal.proofs.Fixed.{facts-same}
+use Rattle.journal.specs.Answer.{factsIn, Scans}
+use Rattle.journal.proofs.Fixed.{facts-same, within}
 use Rattle.probe.specs.Probes.{Accepted, Probes, plan, long, damaged, holds, ProbeCall}
 
 -- ---- an accepted plan
@@ -70,19 +69,6 @@ module _ {p : List ℕ} {n : ℕ} (a : Accepted p n) (table : List ℕ) (t : Pla
 -- no refusal of a plan has number 0
 not-zero : {p : List ℕ} {n : ℕ} → Checks p (Refused n) → ¬ (n ≡ 0)
 not-zero h z = omega (arith, accepted-values (h .ruled) z)
-
--- the whole saves and the torn bytes are part of the chip
-within : {F : Facts} {chip : List ℕ} {end torn : ℕ} {last : Commit} {values : List ℕ} → Taken F chip end torn last values → end + torn ≤ length chip
-within t =
-    let ff = replicate {A = ℕ} (t .reading .erased) 0xFF in
-    omega (
-      arith,
-      t .end-is,
-      t .torn-is,
-      ap length (t .reading .bytes),
-      length-append (images (t .saves) ++ t .rest) ff,
-      length-append (images (t .saves)) (t .rest),
-    )
 
 -- both numbers of an accepted chip are at most the longest chip's length
 pub short : {p chip values : List ℕ} {number end torn : ℕ} {last : Commit} → Probes p chip number end torn last values → number ≡ 0 → end + torn ≤ 65536

@@ -1,4 +1,4 @@
--- Worked rows of the definitions, computed: one fact over all of them.
+-- Worked rows of the definitions, computed: one fact over all of them. Document 01's own rows are in the table of crate `restart`.
 -- Assumes nothing.
 use mathlib.Core.Path.{_≡_, refl}
 use mathlib.Core.Bool.{Bool, true, cond, _&&_}
@@ -23,16 +23,13 @@ pub record Row : Type 0 where
 abbrev pub rows : List Row
 rows =
     record { got = bitsOf (negsuc 0); want = 0xFFFFFFFF }
-    ∷ record { got = addOf 2147483647 1; want = neg 2147483648 }
     ∷ record { got = addOf (neg 2147483648) (neg 1); want = 2147483647 }
     ∷ record { got = subOf (neg 2147483648) 1; want = 2147483647 }
     ∷ record { got = subOf 0 (neg 2147483648); want = neg 2147483648 }
-    ∷ record { got = divOf 7 (neg 2); want = neg 3 }
     ∷ record { got = divOf (neg 7) 2; want = neg 3 }
     ∷ record { got = divOf (neg 2147483648) (neg 1); want = neg 2147483648 }
     ∷ record { got = cond (lessOf (neg 1) 0) 1 0; want = 1 }
     ∷ record { got = cond (lessOf 0 (neg 2147483648)) 1 0; want = 0 }
-    ∷ record { got = placeOf (neg 1) 4; want = 3 }
     ∷ record { got = placeOf (neg 4) 4; want = 0 }
     ∷ record { got = placeOf 6 4; want = 2 }
     ∷ record { got = byteOf 0x12345678 0; want = 0x78 }

@@ -5,7 +5,8 @@ pub mod examples;
 pub mod features;
 pub mod journals;
 pub mod plans;
-pub mod rng;
+
+pub use claim::rng;
 
 use std::ptr::{null, null_mut};
 

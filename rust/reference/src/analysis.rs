@@ -44,8 +44,13 @@ fn words(set: &Set) -> [u64; 4] {
 
 /// Analyses a plan, or gives check's refusal of it, 1 to 8.
 pub fn analyse(plan: &[u8]) -> Result<Analysis, u32> {
+    analyse_with(plan, Instruction::must_write)
+}
+
+/// As `analyse`, where another rule says which cells a command must write: tests try a wrong rule.
+pub fn analyse_with(plan: &[u8], must_write: fn(Instruction, u8) -> bool) -> Result<Analysis, u32> {
     let checked = check(plan)?;
-    let flow = Flow::new(instructions(plan, checked.cells as usize)?);
+    let flow = Flow::new(instructions(plan, checked.cells as usize)?, must_write);
     // Byte 0 is the cell count less 1.
     let cells = 0..=plan[0];
 
@@ -80,10 +85,14 @@ pub fn analyse(plan: &[u8]) -> Result<Analysis, u32> {
 struct Flow {
     instructions: Vec<(usize, Instruction)>,
     successors: Vec<Vec<usize>>,
+    must_write: fn(Instruction, u8) -> bool,
 }
 
 impl Flow {
-    fn new(instructions: Vec<(usize, Instruction)>) -> Flow {
+    fn new(
+        instructions: Vec<(usize, Instruction)>,
+        must_write: fn(Instruction, u8) -> bool,
+    ) -> Flow {
         let place_of = |t: u16| {
             instructions
                 .binary_search_by_key(&usize::from(t), |(offset, _)| *offset)
@@ -102,6 +111,7 @@ impl Flow {
         Flow {
             instructions,
             successors,
+            must_write,
         }
     }
 
@@ -135,7 +145,7 @@ impl Flow {
     /// cell, and no earlier command on the path must write it." The command itself is the first of
     /// the path, so what it reads is live before it, even if it writes that too.
     fn is_live(&self, cell: u8, place: usize) -> bool {
-        self.reached(place, |instruction| !instruction.must_write(cell))
+        self.reached(place, |instruction| !(self.must_write)(instruction, cell))
             .iter()
             .any(|&end| self.at(end).may_read(cell))
     }

@@ -5,11 +5,15 @@
 pub mod analysis;
 pub mod check;
 pub mod journal;
+pub mod layout;
 pub mod listing;
 pub mod machine;
 pub mod program;
+pub mod recovery;
 pub mod refusal;
+pub mod uncut;
 
 pub use analysis::{analyse, Analysis, Set};
 pub use check::{check, Checked};
 pub use listing::listing;
+pub use recovery::recover;

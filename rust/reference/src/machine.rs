@@ -95,8 +95,8 @@ pub struct Ran {
 }
 
 /// An accepted plan and the words lent with it.
-struct Machine<'a> {
-    cells: usize,
+pub(crate) struct Machine<'a> {
+    pub(crate) cells: usize,
     commands: BTreeMap<u32, Instruction>,
     sets: &'a [u64],
 }
@@ -137,7 +137,7 @@ pub fn run(
 
 impl<'a> Machine<'a> {
     /// The refusals 1 to 9.
-    fn new(plan: &[u8], sets: &'a [u64]) -> Result<Machine<'a>, u32> {
+    pub(crate) fn new(plan: &[u8], sets: &'a [u64]) -> Result<Machine<'a>, u32> {
         let cells = check(plan)?.cells as usize;
         if sets.len() < SET_WORDS {
             return Err(BUFFER_TOO_SHORT);
@@ -157,18 +157,21 @@ impl<'a> Machine<'a> {
             .all(|cell| state.cells[cell] == 0 && state.marks[cell] == Mark::Include);
         let is_exclude = self.commands.get(&state.exclude) == Some(&Instruction::Exclude);
         let fits = state.write as usize + state.erase as usize <= chip;
+        let at_checkpoint = self.commands.get(&state.place) == Some(&Instruction::Checkpoint);
         let saving = state.saving.is_none_or(|stored| {
-            let size = self.save(state).bytes().len();
-            self.commands.get(&state.place) == Some(&Instruction::Checkpoint)
-                && state.erase == 0
-                && (stored as usize) < size
-                && state.write as usize + (size - stored as usize) <= chip
+            at_checkpoint && state.erase == 0 && self.rest_fits(state, stored as usize, chip)
         });
         self.commands.contains_key(&state.place)
             && (state.exclude == 0 || is_exclude)
             && missing_clear
             && fits
             && saving
+    }
+
+    /// "has stored fewer bytes than its save has, and the remaining bytes fit"; the place is a CHECKPOINT.
+    fn rest_fits(&self, state: &State, stored: usize, chip: usize) -> bool {
+        let size = self.save(state).bytes().len();
+        stored < size && state.write as usize + (size - stored) <= chip
     }
 
     /// What is due: nothing of the plan while bytes are to be erased or stored.
@@ -309,16 +312,9 @@ impl<'a> Machine<'a> {
 
     /// "in DE, Dead. Else in RO: Include, Pending and Dead become Pending; Kept remains. Else Include."
     fn exclude(&self, state: &mut State) {
-        let excludes = self
-            .commands
-            .iter()
-            .filter(|(_, c)| **c == Instruction::Exclude);
-        let number = excludes.take_while(|(at, _)| **at < state.place).count();
-        let is_in = |first: usize, cell: usize| {
-            self.sets[8 * number + first + cell / 64] >> (cell % 64) & 1 == 1
-        };
+        let (de, ro) = self.sets_of(state.place);
         for cell in 0..self.cells {
-            state.marks[cell] = match (is_in(0, cell), is_in(4, cell), state.marks[cell]) {
+            state.marks[cell] = match (is_in(de, cell), is_in(ro, cell), state.marks[cell]) {
                 (true, _, _) => Mark::Dead,
                 (false, true, Mark::Kept) => Mark::Kept,
                 (false, true, _) => Mark::Pending,
@@ -326,6 +322,18 @@ impl<'a> Machine<'a> {
             };
         }
     }
+
+    /// The words of DE and those of RO of the EXCLUDE at this offset.
+    pub(crate) fn sets_of(&self, exclude: u32) -> (&[u64], &[u64]) {
+        let before = self.commands.range(..exclude);
+        let number = before.filter(|(_, c)| **c == Instruction::Exclude).count();
+        self.sets[8 * number..8 * number + 8].split_at(4)
+    }
+}
+
+/// "In a set bit b of word w stands for cell 64 × w + b."
+pub(crate) fn is_in(set: &[u64], cell: usize) -> bool {
+    set[cell / 64] >> (cell % 64) & 1 == 1
 }
 
 fn opcode(command: Instruction) -> u8 {

@@ -14,7 +14,7 @@ pub const BAD_TABLE: u32 = 5;
 pub const TOO_MANY: u32 = 6;
 /// No instruction, or the last is neither END nor JUMP.
 pub const BAD_LAST_INSTRUCTION: u32 = 7;
-/// A jump's target isn't the offset of a instruction.
+/// A jump's target isn't the offset of an instruction.
 pub const BAD_TARGET: u32 = 8;
 /// A word buffer is too short.
 pub const BUFFER_TOO_SHORT: u32 = 9;

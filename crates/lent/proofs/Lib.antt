@@ -1,0 +1,3 @@
+-- What the three walks share. The functions' contracts are what other crates cite.
+-- Assumes nothing.
+mod Lending

@@ -1,0 +1,4 @@
+-- What the crates above cite: the laws of recovery; below, what the proofs of the functions use.
+-- Assumes nothing.
+pub mod Laws
+mod Recovering

@@ -1,0 +1,79 @@
+-- Recovery: document 01, "Recovery reads saves from byte 0." What the journal holds is crate `journal`'s; here is the state that is made of it.
+-- Assumes nothing.
+use Prim.Native.Nat.{ℕ, _*_, _<_}
+use mathlib.Core.Path.{_≡_}
+use mathlib.Core.Bool.{cond}
+use mathlib.Core.List.{List, []}
+use lib.ListN.{length, replicate}
+use lib.Dec.{eqb, ltb}
+use Rattle.instruction.specs.Bytes.{cellsOf}
+use Rattle.program.specs.Check.{Answer, checkOf}
+use Rattle.program.specs.Places.{excludeNumber}
+use Rattle.marks.specs.Marks.{recoveredMarks}
+use Rattle.journal.specs.declared.Commit.{Commit}
+use Rattle.journal.specs.declared.Scanned.{Scanned}
+use Rattle.journal.specs.declared.Scanned.the-variants.{Damaged, Found}
+use Rattle.journal.specs.Reading.{factsOf}
+use Rattle.journal.specs.Answer.{Scans}
+use Rattle.machine.specs.declared.Regs.{Regs}
+use Rattle.machine.specs.State.{Env, Machine, machineOf}
+use Rattle.machine.specs.Run.{numberOf}
+use Rattle.recovery.specs.declared.Recovered.{Recovered}
+use Rattle.recovery.specs.declared.Recovered.the-variants.{Restored, Refused}
+
+-- "Rising order": 1 to 8 of the plan, 9 the words, 11 the chip's length; 0 where none of them stands. "Recovery overwrites the lent state, of which it tests
+-- only the length": a state here has its length, so there is no 10
+unfoldable pub refusalOf : Env → (len : ℕ) → ℕ
+refusalOf e len =
+    let n = numberOf (checkOf (e .program)) in
+    cond (eqb n 0) (cond (ltb (length (e .sets)) 512) 9 (cond (ltb 65536 len) 11 0)) n
+
+-- "the last mark's offset and counts, or offset 1 and zeros" (`last`), not stopped; the next byte goes behind the whole saves, and the torn bytes are to be erased
+abbrev pub regsOf : (end torn : ℕ) → Commit → Regs
+regsOf end torn last =
+    record {
+      pc = last .place;
+      exclude = last .exclude;
+      readings = last .readings;
+      outputs = last .outputs;
+      stop = 0;
+      write = end;
+      erase = torn;
+      saving = 0;
+    }
+
+-- all Include
+unfoldable pub included : List ℕ
+included = replicate 256 0
+
+-- "marks Dead for DE, else Kept for RO, else Include, by the last EXCLUDE, all Include if 0"; "bits of missing cells count as 0"
+unfoldable pub marksBy : Env → (exclude : ℕ) → List ℕ
+marksBy e x =
+    cond (eqb x 0) included
+    (recoveredMarks (e .sets) (8 * excludeNumber (e .program) x) (cellsOf (e .program)) included)
+
+-- what a call leaves: the answer, and the state with the journal
+pub record Outcome : Type 0 where
+  pub answer : Recovered
+  pub machine : Machine
+
+abbrev pub outcome : Recovered → Machine → Outcome
+outcome a m = record { answer = a; machine = m }
+
+-- from what the journal reads as, and its values ("each cell's last saved value in whole saves, or 0"): "else the chip is damaged", 12, which alters nothing lent;
+-- else the state, and recovery "stores nothing on the chip"
+unfoldable pub recoverOf : Env → Scanned → (values : List ℕ) → Machine → Outcome
+recoverOf e Damaged values m = outcome (Refused 12) m
+recoverOf e (Found end torn last) values m = outcome Restored (machineOf (regsOf end torn last) values (marksBy e (last .exclude)) (m .journal))
+
+-- what recovery makes of the state and the journal m, for the program and the words e. A journal has one reading (`scan-fixed` of crate `journal`), so this
+-- leaves one outcome (`one-outcome` of proofs/Laws.antt)
+pub data Recovers (e : Env) (m : Machine) (r : Outcome) : Type 0 where
+  refuses : (n : ℕ) → refusalOf e (length (m .journal)) ≡ n → 0 < n → r ≡ outcome (Refused n) m → Recovers e m r
+  reads : refusalOf e (length (m .journal)) ≡ 0 → (a : Scanned) (values : List ℕ) → Scans (factsOf (e .program)) (m .journal) a values
+      → r ≡ recoverOf e a values m → Recovers e m r
+
+-- 01's number of an answer, 0 where it is accepted; it has no values
+abbrev pub answerOf : Recovered → Answer
+answerOf Restored = record { number = 0; values = [] }
+answerOf (Refused n) = record { number = n; values = [] }

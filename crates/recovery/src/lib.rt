@@ -1,0 +1,121 @@
+// Recovery (document 01: "Every run begins with recovery, on an erased chip too"): the state that a
+// journal holds. `recover_value` takes any program, words, journal and state, and gives the state that the
+// one reading of the journal makes, or a refusal that alters nothing: `Recovers` of specs/Recover.antt.
+// What that state is good for is proved in crate `restart`.
+use instruction::byte_at;
+use journal::Commit;
+use journal::Scanned;
+use journal::scan;
+use machine::Regs;
+use machine::State;
+use marks::recover;
+use program::Checked;
+use program::places::place_at;
+use program::places::places;
+ghost use mathlib.Core.Path.{_≡_};
+ghost use mathlib.Core.Bool.{true};
+ghost use mathlib.Core.Logic.{_⊎_};
+ghost use Prim.Native.Nat.{_≤_};
+ghost use Rattle.instruction.specs.Bytes.{cellsOf};
+ghost use Rattle.program.specs.Places.{isExclude};
+ghost use Rattle.machine.specs.State.{envOf, machineOf};
+ghost use Rattle.machine.specs.Ready.{Legal, Ready};
+ghost use Rattle.recovery.specs.Recover.{regsOf, marksBy, outcome, Recovers};
+
+// The answer: the state is restored, or why not. `answerOf` of specs/Recover.antt gives document 01's number.
+pub enum Recovered {
+    Restored,
+    Refused(u32),
+}
+
+// What recovery gives back: the state, and the answer.
+pub struct Recovery {
+    pub state: State,
+    pub answer: Recovered,
+}
+
+fn refused(state: State, number: u32) -> Recovery
+    ensures { λ r. ⌜ r ≡ record { state = state; answer = Recovered.Refused number } ⌝ }
+{
+    Recovery {
+        state,
+        answer: Recovered::Refused(number),
+    }
+}
+
+// The registers: the last commit's, with the torn bytes behind the whole checkpoints to erase.
+fn regs_of(end: usize, torn: usize, last: Commit) -> Regs
+    requires { ⌜ (end ≤ 65536) × (torn ≤ 65536) ⌝ }
+    ensures { λ r. ⌜ r ≡ regsOf end torn last ⌝ }
+{
+    Regs {
+        pc: last.place as u32,
+        exclude: last.exclude as u32,
+        readings: last.readings,
+        outputs: last.outputs,
+        stop: 0,
+        write: end as u32,
+        erase: torn as u32,
+        saving: 0,
+    }
+}
+
+// The marks by the last EXCLUDE, which stands at offset x, or is none where x is 0.
+fn marks_by(program: &[u8], table: &[u8; 2048], sets: &[u64], x: usize) -> [u8; 256]
+    requires { ⌜ Ready (envOf (now program) (now sets)) (now table) × ((x ≡ 0) ⊎ (isExclude (now program) x ≡ true)) ⌝ }
+    ensures { λ r. ⌜ r ≡ marksBy (envOf (now (program .entry)) (now (sets .entry))) x ⌝ }
+{
+    let mut marks = [0u8; 256];
+    if x != 0 {
+        let number = place_at(table, x).exclude as usize;
+        recover(
+            &mut marks,
+            sets,
+            8 * (number - 1),
+            byte_at(program, 0) as usize + 1,
+        );
+    }
+    marks
+}
+
+// The recovery for an accepted program of n cells, which the other refusals may still prevent.
+fn recover_legal(state: State, program: &[u8], sets: &[u64], journal: &[u8], n: usize) -> Recovery
+    requires { ⌜ Legal (now program) × (cellsOf (now program) ≡ n) ⌝ }
+    ensures { λ r. ⌜ Recovers (envOf (now (program .entry)) (now (sets .entry))) (machineOf (state .regs) (state .cells) (state .marks) (now (journal .entry))) (outcome (r .answer) (machineOf (r .state .regs) (r .state .cells) (r .state .marks) (now (journal .entry)))) ⌝ }
+{
+    if sets.len() < 512 {
+        return refused(state, 9);
+    }
+    if 65536 < journal.len() {
+        return refused(state, 11);
+    }
+    let table = places(program);
+    let contents = scan(journal, n, &table);
+    let answer = contents.answer;
+    let cells = contents.values;
+    match answer {
+        Scanned::Damaged => refused(state, 12),
+        Scanned::Found { end, torn, last } => {
+            let regs = regs_of(end, torn, last);
+            let marks = marks_by(program, &table, sets, last.exclude as usize);
+            Recovery {
+                state: State { regs, cells, marks },
+                answer: Recovered::Restored,
+            }
+        }
+    }
+}
+
+// Recovery, or a refusal that alters nothing; nothing is stored on the journal.
+pub fn recover_value(state: State, program: &[u8], sets: &[u64], journal: &[u8]) -> Recovery
+    ensures { λ r. ⌜ Recovers (envOf (now (program .entry)) (now (sets .entry))) (machineOf (state .regs) (state .cells) (state .marks) (now (journal .entry))) (outcome (r .answer) (machineOf (r .state .regs) (r .state .cells) (r .state .marks) (now (journal .entry)))) ⌝ }
+{
+    match program::check(program) {
+        Checked::Refused(number) => refused(state, number),
+        Checked::Program {
+            cells,
+            instructions: _,
+            excludes: _,
+        } => recover_legal(state, program, sets, journal, cells as usize),
+    }
+}

@@ -1,0 +1,37 @@
+-- All that calls, the uncut run and histories on given plans are computed with, under one name: who unfolds `computing` unfolds these definitions.
+-- Assumes nothing.
+use Rattle.word.specs.Word.{addOf, divOf, placeOf}
+use Rattle.word.specs.Bytes.{bytesOf, numberOf}
+use Rattle.cellset.specs.Bits.{bit}
+use Rattle.instruction.specs.Bytes.{lengthOf, instructionAt}
+use Rattle.instruction.specs.Table.{access, successors}
+use Rattle.program.specs.Starts.{startsFrom, starts, refusalAt, firstRefusal, excludes, lastOpcode, among, jumpsAmong}
+use Rattle.program.specs.Places.{excludesBefore}
+use Rattle.program.specs.Check.{checkOf}
+use Rattle.execution.specs.Effects.{effectOf}
+use Rattle.analysis.specs.Analyse.{analyseOf}
+use Rattle.marks.specs.Marks.{mapBelow, excludedMarks, savedMarks, recoveredMarks, storedFrom, storedCells}
+use Rattle.journal.specs.Format.{fieldsImage, recordsImage, image, images}
+use Rattle.journal.specs.Reading.{lastOf, savedIn, savedValue}
+use Rattle.journal.specs.Writing.{recordsOf}
+use Rattle.machine.specs.State.{checkpointAt, imageAt, sizeAt, zeroFrom, marksFrom, soundOf}
+use Rattle.machine.specs.Step.{effectAt, performed, begun, executedOf, erasedOf, storedOf, stepOf, dueOpcode, givenOf, takenOf}
+use Rattle.machine.specs.Run as run
+use Rattle.machine.specs.Run.{exitBefore, stepped, runOf, lateRefusal, callOf}
+use Rattle.recovery.specs.Recover as recovery
+use Rattle.recovery.specs.Recover.{included, marksBy}
+use Rattle.restart.specs.Reference.{zeros, numberedFrom, frameAfter, effectIn, stays, nextFrame, outputAt, gathered, refAt, emitted}
+use Rattle.restart.specs.History.{retires, tallied, talliedOver, outcomeOf, tallyAfter, ran}
+use Rattle.restart.specs.Claim.{stands, distinct}
+use Rattle.restart.specs.Rows.{ranFrom, smallSets}
+use Rattle.machine.proofs.Tables.{tabulated}
+use Rattle.restart.proofs.Outcomes.{valuesOf}
+
+unfoldable pub computing : Unit {0}
+unfolding addOf divOf placeOf bytesOf numberOf bit lengthOf instructionAt access successors startsFrom starts refusalAt firstRefusal excludes lastOpcode among
+    jumpsAmong excludesBefore checkOf effectOf analyseOf mapBelow excludedMarks savedMarks recoveredMarks storedFrom storedCells fieldsImage recordsImage image
+    images lastOf savedIn savedValue recordsOf checkpointAt imageAt sizeAt zeroFrom marksFrom soundOf effectAt performed begun executedOf erasedOf storedOf
+    stepOf dueOpcode givenOf takenOf exitBefore stepped runOf lateRefusal run.refusalOf callOf recovery.refusalOf included marksBy zeros numberedFrom
+    frameAfter effectIn stays nextFrame outputAt gathered refAt emitted retires tallied talliedOver outcomeOf tallyAfter ran stands distinct ranFrom
+    smallSets tabulated valuesOf
+computing = tt

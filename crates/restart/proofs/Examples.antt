@@ -1,0 +1,279 @@
+-- Histories that exist, computed, so that demand 3 speaks of something. The small plan of document 01: a run is cut inside its second save, recovery finds the
+-- first save and torn bytes, and the next run erases these, takes up at the first save and gives an output again (`small-history`, `small-facts`, `small-claim`).
+-- A plan that ends behind its saves: one run, with the budget that the claim asks for, stops where the uncut run does (`ending-history`, `ending-facts`,
+-- `ending-uses`).
+-- Assumes nothing.
+use Prim.Native.Nat.{ℕ, zero, suc, _+_, _*_, _≤_, _<_}
+use mathlib.Core.Path.{_≡_, refl, ap}
+use mathlib.Core.Bool.{true, false}
+use mathlib.Core.List.{List, [], _∷_, _++_}
+use mathlib.Core.Logic.{inr}
+use native.Mathlib.Omega.{arith}
+use lib.IntN.{ℤ, pos}
+use lib.ListN.{length, getD, take, drop, replicate, length-replicate}
+use lib.Dec.{ltb}
+use borrow.Author.Tests.{ltb-true}
+use Rattle.program.specs.Check.{checkOf}
+use Rattle.program.specs.declared.Checked.the-variants.{Program}
+use Rattle.program.proofs.Tests.{and-both}
+use Rattle.execution.specs.Effects.{ended}
+use Rattle.analysis.proofs.Certificates.{allOf}
+use Rattle.analysis.proofs.Computed.{analyses-by}
+use Rattle.journal.specs.Format.{Checkpoint, image}
+use Rattle.journal.specs.Reading.{factsOf}
+use Rattle.journal.specs.Shape.{Shape}
+use Rattle.journal.proofs.Torn.{Trimmed, trimmed-nil, trimmed-snoc}
+use Rattle.journal.proofs.Back.{erased-shape}
+use Rattle.machine.specs.State.{Machine, machineOf}
+use Rattle.machine.specs.declared.Ended.the-variants.{Stopped, NoReading}
+use Rattle.recovery.specs.Recover.{refusalOf, outcome}
+use Rattle.recovery.specs.declared.Recovered.the-variants.{Restored}
+use Rattle.restart.specs.Reference.{zeros, Numbered, refAt, emitted}
+use Rattle.restart.specs.History.{Tally, setBack, System, unused, restored, crashed, Request, outcomeOf, ran, History, begins, recovers, runs, crashed-run}
+use Rattle.restart.specs.Claim.{Plan, Found, distinct, Claim, Chain, one, Erased}
+use Rattle.restart.specs.Rows.{Trial, envIn, small, smallSets, trial, firstSave}
+use Rattle.restart.proofs.Outcomes.{valuesOf, values-some, stateOf, outcome-is}
+use Rattle.restart.proofs.Computing.{computing}
+use Rattle.restart.proofs.Rows.{saveOf, tornBytes, cut-shape}
+use Rattle.restart.proofs.Theorem.{demand-3}
+
+-- ---- plans
+
+-- a list of numbers below 256 is of bytes
+bytes-by : (p : List ℕ) → allOf (λ b. ltb b 256) p ≡ true → (k : ℕ) → getD p k 0 < 256
+bytes-by [] h k = omega arith
+bytes-by (x ∷ p) h zero = ltb-true _ _ (and-both (ltb x 256) _ h .0)
+bytes-by (x ∷ p) h (suc k) = bytes-by p (and-both (ltb x 256) _ h .1) k
+
+-- what check passes and is of bytes is a plan
+plan-by : (p : List ℕ) {c n e : ℕ} → checkOf p ≡ Program c n e → allOf (λ b. ltb b 256) p ≡ true → Plan p
+plan-by p {c} {n} {e} h b = record { legal = record { cells = c; instructions = n; excludes = e; accepted = h }; bytes = bytes-by p b }
+
+-- sets of cells below 64, four words each
+abbrev inFour : List ℕ → List ℕ
+inFour [] = []
+inFour (x ∷ xs) = x ∷ 0 ∷ 0 ∷ 0 ∷ inFour xs
+
+-- ---- calls
+
+-- what a state may hold before a recovery: no cells, no marks, registers that are not sound
+abbrev pub spoiled : List ℕ → Machine
+spoiled chip = machineOf (record { pc = 4; exclude = 9; readings = 8; outputs = 7; stop = 6; write = 50; erase = 40; saving = 3 }) [] [] chip
+
+abbrev pub tallyOf : (retired committed highest : ℕ) → Tally
+tallyOf r c h = record { retired = r; committed = c; highest = h }
+
+abbrev pub output : ℕ → ℤ → Numbered
+output n v = record { number = n; value = v }
+
+module _ (t : Trial) where
+  -- 01's own lists
+  abbrev Lists : System → Type 0
+  Lists = History (t .program) (t .readings) (t .chip) 0 (Erased (t .chip)) (λ w. w ≡ t .words)
+
+  -- the system after a recovery that finds the checkpoints js and so many torn bytes; the first one finds none
+  abbrev pub recovered : System → List Checkpoint → ℕ → System
+  recovered s js torn = restored s (outcome Restored (stateOf (envIn t) js torn (valuesOf js) (s .machine .journal)))
+
+  abbrev pub begun : System
+  begun = recovered (unused 0 (spoiled (replicate (t .chip) 0xFF))) [] 0
+
+  -- a run of the trial
+  abbrev pub request : Request
+  request = record { words = t .words; readings = length (t .readings); budget = t .budget; places = t .places }
+
+  -- a recovery finds what stands on the chip
+  recovery : {s : System} → Lists s → (js : List Checkpoint) (q : List ℕ) → Shape (factsOf (t .program)) (s .machine .journal) js q
+      → refusalOf (envIn t) (length (s .machine .journal)) ≡ 0 → Trimmed q → Lists (recovered s js (length q))
+  recovery {s} h js q shape z trimmed =
+      recovers h (t .words) refl _ (outcome-is (envIn t) (s .machine) js q shape z trimmed (valuesOf js) (values-some js)) refl
+
+  -- a list begins, and recovers
+  beginning : refusalOf (envIn t) (length {A = ℕ} (replicate (t .chip) 0xFF)) ≡ 0 → Lists begun
+  beginning z = recovery (begins (spoiled (replicate (t .chip) 0xFF)) (length-replicate {A = ℕ} (t .chip) 0xFF) refl) [] [] (erased-shape (t .chip)) z trimmed-nil
+
+-- ---- the small plan
+
+-- its dead sets, instruction by instruction
+smallDead : List ℕ
+smallDead = inFour (7 ∷ 6 ∷ 4 ∷ 6 ∷ 6 ∷ 6 ∷ 6 ∷ []) ++ replicate 2020 0
+
+-- it is a plan
+pub small-plan : Plan small
+unfolding computing
+small-plan = plan-by small refl refl
+
+-- and the sets that document 01 gives are those that analyse finds
+pub small-found : Found small smallSets
+unfolding computing smallDead
+small-found = record {
+  lent = smallSets;
+  dead-lent = smallDead;
+  dead = smallDead;
+  cells = 3;
+  instructions = 7;
+  excludes = 1;
+  analyses = analyses-by small smallDead smallSets refl refl;
+}
+
+-- 5, 7, −2
+abbrev pub smallReadings : List ℤ
+smallReadings = trial 60 1000 .readings
+
+-- after the first recovery
+unfoldable pub smallBegun : System
+smallBegun = begun (trial 60 45)
+
+-- after a run that is cut behind 45 steps; the state is lost
+unfoldable pub smallCut : System
+smallCut = crashed (ran small smallReadings smallBegun (request (trial 60 45))) (spoiled [])
+
+-- after a recovery that finds the first save and 13 torn bytes
+unfoldable pub smallTaken : System
+smallTaken = recovered (trial 60 1000) smallCut (saveOf 5 1 1 ∷ []) 13
+
+-- after a run that takes the readings that are left
+unfoldable pub smallDone : System
+smallDone = ran small smallReadings smallTaken (request (trial 60 1000))
+
+-- the torn bytes do not end in FF
+torn-trimmed : Trimmed tornBytes
+unfolding computing
+torn-trimmed = trimmed-snoc (take 12 (image (saveOf 12 2 2))) 0 (λ e. omega arith)
+
+small-cut : Lists (trial 60 45) smallCut
+unfolding computing smallBegun smallCut
+small-cut = crashed-run (beginning (trial 60 45) refl) refl (request (trial 60 45)) refl tt (spoiled [])
+
+small-taken : Lists (trial 60 1000) smallTaken
+unfolding computing smallBegun smallCut smallTaken
+small-taken = recovery (trial 60 1000) small-cut (saveOf 5 1 1 ∷ []) tornBytes cut-shape refl torn-trimmed
+
+-- these calls are a history
+pub small-history : History small smallReadings 60 0 (Erased 60) (λ w. w ≡ smallSets) smallDone
+unfolding computing smallBegun smallCut smallTaken smallDone
+small-history = runs small-taken refl (request (trial 60 1000)) refl tt
+
+-- the cut falls inside the second save: of 11 commands executed 6 are committed, two outputs are given, and 33 bytes are stored
+pub cut-facts : (smallCut .tally ≡ tallyOf 11 6 11)
+    × (smallCut .outputs ≡ output 0 (pos 5) ∷ output 1 (pos 12) ∷ [])
+    × (take 20 (smallCut .machine .journal) ≡ firstSave)
+    × (take 13 (drop 20 (smallCut .machine .journal))
+    ≡ 0xA1 ∷ 0x00 ∷ 0x0C ∷ 0x00 ∷ 0x00 ∷ 0x00 ∷ 0xA2 ∷ 0x11 ∷ 0x00 ∷ 0x0F ∷ 0x00 ∷ 0x02 ∷ 0x00 ∷ [])
+    × (drop 33 (smallCut .machine .journal) ≡ replicate 27 0xFF)
+    × (smallCut .good ≡ false)
+unfolding computing smallBegun smallCut
+cut-facts = (refl, refl, refl, refl, refl, refl)
+
+-- recovery sets the tally back to the first save; 13 bytes are to be erased
+pub taken-facts : (smallTaken .tally ≡ tallyOf 6 6 11)
+    × (smallTaken .machine .regs .pc ≡ 17)
+    × (smallTaken .machine .regs .erase ≡ 13)
+    × (smallTaken .good ≡ true)
+unfolding computing smallTaken
+taken-facts = (ap setBack (cut-facts .0), refl, refl, refl)
+
+-- the last run ends for want of a reading; the second output is given again, and repetitions aside they are 5, 12, 10; three saves fill the chip
+pub small-facts : (outcomeOf small smallReadings (smallTaken .machine) (request (trial 60 1000)) .ended ≡ NoReading)
+    × (smallDone .tally ≡ tallyOf 19 18 19)
+    × (smallDone .outputs ≡ output 0 (pos 5) ∷ output 1 (pos 12) ∷ output 1 (pos 12) ∷ output 2 (pos 10) ∷ [])
+    × (distinct [] (smallDone .outputs) ≡ output 0 (pos 5) ∷ output 1 (pos 12) ∷ output 2 (pos 10) ∷ [])
+    × (smallDone .machine .regs .write ≡ 60)
+    × (smallDone .steps ≡ 66)
+    × (smallDone .good ≡ true)
+unfolding computing smallBegun smallCut smallTaken smallDone
+small-facts = (refl, refl, refl, refl, refl, refl, refl)
+
+-- demand 3 of it
+pub small-claim : Claim small smallReadings zeros 60 0 (λ w. w ≡ smallSets) smallDone
+small-claim = demand-3 small small-plan smallReadings 60 smallSets small-found smallDone small-history
+
+-- ---- a plan that ends
+
+-- EXCLUDE, CHECKPOINT, EMIT 0, CHECKPOINT, END, with one cell
+abbrev pub ending : List ℕ
+ending = 0x00 ∷ 0x0D ∷ 0x0E ∷ 0x08 ∷ 0 ∷ 0x0E ∷ 0x01 ∷ []
+
+-- its sets: the cell is live at the first CHECKPOINT, and nothing writes it
+unfoldable pub endingSets : List ℕ
+endingSets = 0 ∷ 0 ∷ 0 ∷ 0 ∷ 1 ∷ 0 ∷ 0 ∷ 0 ∷ replicate 504 0
+
+endingDead : List ℕ
+endingDead = inFour (0 ∷ 0 ∷ 0 ∷ 1 ∷ 1 ∷ []) ++ replicate 2028 0
+
+pub ending-plan : Plan ending
+unfolding computing
+ending-plan = plan-by ending refl refl
+
+pub ending-found : Found ending endingSets
+unfolding computing endingSets endingDead
+ending-found = record {
+  lent = endingSets;
+  dead-lent = endingDead;
+  dead = endingDead;
+  cells = 1;
+  instructions = 5;
+  excludes = 1;
+  analyses = analyses-by ending endingDead endingSets refl refl;
+}
+
+-- no readings, and the budget that the claim asks for: 5 + 2 * 60
+abbrev pub endingTrial : Trial
+endingTrial = record { program = ending; words = endingSets; chip = 60; readings = []; budget = 125; places = pos 0 ∷ [] }
+
+-- after the first recovery, and after the run
+unfoldable pub endingBegun : System
+endingBegun = begun endingTrial
+
+unfoldable pub endingDone : System
+endingDone = ran ending [] endingBegun (request endingTrial)
+
+ending-begun : Lists endingTrial endingBegun
+unfolding computing endingSets endingBegun
+ending-begun = beginning endingTrial refl
+
+-- these calls are a history
+pub ending-history : History ending [] 60 0 (Erased 60) (λ w. w ≡ endingSets) endingDone
+unfolding computing endingSets endingBegun endingDone
+ending-history = runs ending-begun refl (request endingTrial) refl tt
+
+-- 5 commands are executed, and 20 and 14 bytes stored: the second save leaves the cell out, since the first holds it
+pub ending-facts : (endingDone .tally ≡ tallyOf 5 4 5)
+    × (endingDone .outputs ≡ output 0 (pos 0) ∷ [])
+    × (endingDone .machine .regs .write ≡ 34)
+    × (endingDone .machine .regs .stop ≡ ended)
+    × (endingDone .steps ≡ 39)
+    × (endingDone .good ≡ true)
+unfolding computing endingSets endingBegun endingDone
+ending-facts = (refl, refl, refl, refl, refl, refl)
+
+-- the uncut run stops after 5 commands
+pub uncut-stop : refAt ending [] zeros 5 .stop ≡ ended
+unfolding computing
+uncut-stop = refl
+
+-- the run is a chain that is given enough
+pub ending-chain : Chain ending [] zeros 60 0 (λ w. w ≡ endingSets) 5 endingBegun 125 (Stopped ended) endingDone
+unfolding computing endingSets endingBegun endingDone
+ending-chain = one (request endingTrial) (record { words = refl; readings = inr (omega arith); room = omega arith; accepted = tt })
+
+-- demand 3 of both systems
+module _ (s : System) (h : Lists endingTrial s) where
+  ending-claim : Claim ending [] zeros 60 0 (λ w. w ≡ endingSets) s
+  ending-claim = demand-3 ending ending-plan [] 60 endingSets ending-found s h
+
+-- so what the claim says of a stop is said of this one: `stopped`, `all`, `steps`, `stops`
+pub ending-uses : ¬ (refAt ending [] zeros (endingDone .tally .highest) .stop ≡ 0)
+    × ((k : ℕ) → endingDone .tally .highest ≤ k → distinct [] (endingDone .outputs) ≡ emitted ending [] zeros 0 k)
+    × (endingDone .steps ≤ 5 + 2 * 60)
+    × (Stopped ended ≡ Stopped (refAt ending [] zeros 5 .stop))
+unfolding endingBegun
+ending-uses =
+    let c = ending-claim endingDone ending-history in
+    let stopped = c .stopped (ending-facts .5) (λ e. omega (arith, ending-facts .3)) in
+    let uncut : ¬ (refAt ending [] zeros 5 .stop ≡ 0) = λ e. omega (arith, uncut-stop) in (
+      stopped,
+      c .all stopped,
+      c .steps 5 uncut,
+      ending-claim endingBegun ending-begun .stops refl 5 uncut 125 (Stopped ended) endingDone ending-chain (omega arith),
+    )

@@ -1,0 +1,182 @@
+-- What recovery makes of a journal that can be taken up: it is accepted, and its state is where the last whole checkpoint was made.
+-- Assumes nothing.
+use Prim.Native.Nat.{ℕ, _+_, _*_, _^_, _≤_, _<_}
+use mathlib.Core.Path.{_≡_, refl, sym, _∙_, ap, subst}
+use mathlib.Core.Bool.{cond}
+use mathlib.Core.List.{List, _++_}
+use mathlib.Core.Logic.{⊎-elim}
+use native.Mathlib.Omega.{arith}
+use lib.IntN.{ℤ}
+use lib.ListN.{length, getD, replicate, length-append, List·getD-eq-default}
+use lib.Dec.{eqb, ltb}
+use borrow.Author.Tests.{le-ltb, ltb-false}
+use Rattle.cellset.proofs.Bits.{le-or-lt}
+use Rattle.instruction.specs.Bytes.{cellsOf}
+use Rattle.program.specs.Places.{excludeNumber}
+use Rattle.program.proofs.Tests.{bool-cases}
+use Rattle.marks.specs.Marks.{recoveredMarks}
+use Rattle.marks.proofs.Laws.{recovered-out, recovered-length, recovered-small}
+use Rattle.journal.specs.declared.Commit.{Commit}
+use Rattle.journal.specs.Format.{Checkpoint, images}
+use Rattle.journal.specs.Reading.{Facts, factsOf, first, Rising, lastOf, savedValue}
+use Rattle.journal.specs.Shape.{Shape}
+use Rattle.machine.specs.State.{envOf, Machine}
+use Rattle.machine.specs.Ready.{Good}
+use Rattle.machine.proofs.Facts.{facts-sound, zero-from, marks-from}
+use Rattle.recovery.specs.Recover.{refusalOf, included, marksBy, Outcome, Recovers}
+use Rattle.recovery.specs.declared.Recovered.{Recovered}
+use Rattle.recovery.specs.declared.Recovered.the-variants.{Restored, Refused}
+use Rattle.restart.specs.Reference.{Frame, refAt}
+use Rattle.restart.specs.History.{Tally, setBack}
+use Rattle.restart.specs.Claim.{Plan, Safe, Resumes}
+use Rattle.restart.proofs.Lists.{included-zero, included-length}
+use Rattle.restart.proofs.Outcomes as outcomes
+use Rattle.restart.proofs.Outcomes.{Values, stateOf, outcome-made}
+use Rattle.restart.proofs.Invariant.{Small, idle, Inv}
+use Rattle.restart.proofs.Saves.{last-has, saved-has}
+use Rattle.restart.proofs.Commits.{last-exclude, last-start}
+use Rattle.restart.proofs.Leaving.{held-restored}
+
+-- ---- what recovered states are made of
+
+-- what the marks of an EXCLUDE have, and those of none, recovery's marks have
+marks-by : (P : List ℕ → Type 0) (p words : List ℕ) (x : ℕ) → P included → ((at : ℕ) → P (recoveredMarks words at (cellsOf p) included))
+    → P (marksBy (envOf p words) x)
+unfolding marksBy
+marks-by P p words x h f = bool-cases (eqb x 0) (λ t. rw t h) (λ t. rw t (f (8 * excludeNumber p x)))
+
+module _ (p words : List ℕ) (x : ℕ) where
+  -- there are 256
+  marks-length : length (marksBy (envOf p words) x) ≡ 256
+  marks-length =
+      marks-by (λ (l : List ℕ). length l ≡ 256) p words x included-length (λ at. recovered-length words at (cellsOf p) included ∙ included-length)
+
+  -- they are marks
+  marks-small : (c : ℕ) → getD (marksBy (envOf p words) x) c 0 ≤ 3
+  marks-small c =
+      let none : (c : ℕ) → getD included c 0 ≤ 3 = λ c. omega (arith, included-zero c) in
+      marks-by (λ (l : List ℕ). getD l c 0 ≤ 3) p words x (none c) (λ at. recovered-small words at (cellsOf p) included none c)
+
+  -- and those of cells that do not exist are Include
+  marks-out : (c : ℕ) → cellsOf p ≤ c → getD (marksBy (envOf p words) x) c 0 ≡ 0
+  marks-out c h =
+      marks-by (λ (l : List ℕ). getD l c 0 ≡ 0) p words x (included-zero c)
+      (λ at. recovered-out words at (cellsOf p) included c h ∙ included-zero c)
+
+-- the checkpoints and what follows them fit the journal
+shape-fits : {F : Facts} {chip : List ℕ} {js : List Checkpoint} {q : List ℕ} → Shape F chip js q → length (images js) + length q ≤ length chip
+shape-fits {js = js} {q = q} s =
+    let z : List ℕ = replicate (s .free) 0xFF in
+    omega (arith, ap length (s .bytes), length-append (images js ++ q) z, length-append (images js) q)
+
+-- a saved value is a pattern of 32 bits
+saved-small : {F : Facts} {js : List Checkpoint} (c : ℕ) → Rising F first js → savedValue c js 0 < 2 ^ 32
+saved-small c r = saved-has c (λ (v : ℕ). v < 2 ^ 32) (λ s cell value e. value) r 0 (omega arith)
+
+-- that of a cell that does not exist is 0
+saved-out : {F : Facts} {js : List Checkpoint} (c : ℕ) → F .cells ≤ c → Rising F first js → savedValue c js 0 ≡ 0
+saved-out c h r = saved-has c (λ (v : ℕ). v ≡ 0) (λ s cell value e. absurd (omega arith)) r 0 refl
+
+-- ---- the state
+
+module _ (p words : List ℕ) (plan : Plan p) (safe : Safe p words) (chip : List ℕ) (js : List Checkpoint) (q : List ℕ) (shape : Shape (factsOf p) chip js q)
+    (values : List ℕ) (saved : Values js values) where
+  -- values and counts are small
+  state-small : Small (stateOf (envOf p words) js (length q) values chip)
+  state-small = record {
+    values =
+        λ c. ⊎-elim
+        (λ (h : 256 ≤ c). omega (arith, List·getD-eq-default values 0 {n = c} (omega (arith, saved .size))))
+        (λ (h : c < 256). rw (saved .values-are c h) (saved-small c (shape .rising)))
+        (le-or-lt 256 c);
+    readings = last-has (λ (c : Commit). c .readings < 2 ^ 32) (λ b c a. a .readings-fit) (omega arith) (shape .rising);
+    outputs = last-has (λ (c : Commit). c .outputs < 2 ^ 32) (λ b c a. a .outputs-fit) (omega arith) (shape .rising);
+  }
+
+  -- it is sound
+  state-good : length chip ≤ 65536 → Good p (stateOf (envOf p words) js (length q) values chip)
+  state-good l =
+      let x = lastOf first js .exclude in
+      record {
+        sound =
+            facts-sound {p = p} (record {
+              stop-small = omega arith;
+              marks-small = marks-from _ 0 256 (λ j a b. marks-small p words x j);
+              stands = last-start p (plan .legal) (shape .rising);
+              exclude-is = last-exclude p (shape .rising);
+              cells-clear =
+                  zero-from values (cellsOf p) _ (λ j a b. saved .values-are j (omega (arith, plan .bytes 0)) ∙ saved-out j a (shape .rising));
+              marks-clear = zero-from _ (cellsOf p) _ (λ j a b. marks-out p words x j a);
+              fits = shape-fits shape;
+              saves = λ s. absurd (omega arith);
+            });
+        most = l;
+        cells = saved .size;
+        marks = marks-length p words x;
+      }
+
+  -- it is at the tally of the last whole checkpoint
+  state-inv : (ρ : List ℤ) (f₀ : Frame) (n : ℕ) (t : Tally) → Resumes p js (refAt p ρ f₀ (t .committed)) → t .committed ≤ t .highest → length chip ≡ n
+      → length chip ≤ 65536 → Inv p ρ f₀ n (stateOf (envOf p words) js (length q) values chip) (setBack t) 0
+  state-inv ρ f₀ n t h c l most = record {
+    saves = js;
+    held =
+        held-restored p ρ f₀ plan words safe js (t .committed) (shape .rising) h values (saved .size) (saved .values-are) (length (images js)) (length q) chip;
+    phase = idle q shape refl refl refl;
+    good = state-good most;
+    small = state-small;
+    size = l;
+    order = omega arith;
+    high = c;
+    paid = omega (arith, shape-fits shape);
+  }
+
+-- ---- the outcome
+
+-- no answer is both accepted and refused
+restored-apart : {a : Recovered} {n : ℕ} → a ≡ Restored → a ≡ Refused n → ⊥
+restored-apart x y = let z : _≡_ {A = ℕ} 0 1 = cc in omega arith
+
+module _ (p words : List ℕ) (plan : Plan p) (safe : Safe p words) (m : Machine) (js : List Checkpoint) (q : List ℕ) (shape : Shape (factsOf p) (m .journal) js q) where
+  -- only a journal that is too long is refused before it is read
+  refusal : (len : ℕ) → refusalOf (envOf p words) len ≡ cond (ltb 65536 len) 11 0
+  unfolding refusalOf
+  refusal len = rw (plan .legal .accepted, le-ltb (length words) 512 (safe .enough))
+
+  -- and any other is read
+  readable : length (m .journal) ≤ 65536 → refusalOf (envOf p words) (length (m .journal)) ≡ 0
+  readable h = refusal (length (m .journal)) ∙ rw (le-ltb 65536 (length (m .journal)) h)
+
+  -- one that is read is not too long
+  not-long : refusalOf (envOf p words) (length (m .journal)) ≡ 0 → length (m .journal) ≤ 65536
+  not-long z =
+      bool-cases (ltb 65536 (length (m .journal)))
+      (λ b. let y : _≡_ {A = ℕ} 0 11 = sym z ∙ refusal (length (m .journal)) ∙ rw b in absurd (omega arith))
+      (λ b. ltb-false _ _ b)
+
+  -- there is an outcome
+  pub outcome-some : length (m .journal) ≤ 65536 → (r : Outcome) × Recovers (envOf p words) m r
+  outcome-some h = outcomes.outcome-some (envOf p words) m js q shape (readable h)
+
+  -- each is accepted
+  pub outcome-restored : length (m .journal) ≤ 65536 → (r : Outcome) → Recovers (envOf p words) m r → r .answer ≡ Restored
+  outcome-restored h r x = ap (λ (o : Outcome). o .answer) (outcome-made (envOf p words) m js q shape (readable h) r x .is)
+
+  -- and on no length is the journal damaged
+  pub outcome-sound : (r : Outcome) → Recovers (envOf p words) m r → ¬ (r .answer ≡ Refused 12)
+  outcome-sound r (Recovers.refuses n z l e) d =
+      let k : Refused n ≡ Refused 12 = sym (ap (λ (o : Outcome). o .answer) e) ∙ d in
+      let x : n ≡ 12 = cc in
+      bool-cases (ltb 65536 (length (m .journal)))
+      (λ b. let y : n ≡ 11 = sym z ∙ refusal (length (m .journal)) ∙ rw b in omega arith)
+      (λ b. let y : n ≡ 0 = sym z ∙ refusal (length (m .journal)) ∙ rw b in omega arith)
+  outcome-sound r (Recovers.reads z a values s e) d = restored-apart (outcome-restored (not-long z) r (Recovers.reads z a values s e)) d
+
+  -- an accepted one is at the tally of the last whole checkpoint
+  pub restored-inv : (ρ : List ℤ) (f₀ : Frame) (n : ℕ) (t : Tally) → Resumes p js (refAt p ρ f₀ (t .committed)) → t .committed ≤ t .highest
+      → length (m .journal) ≡ n → (r : Outcome) → Recovers (envOf p words) m r → r .answer ≡ Restored → Inv p ρ f₀ n (r .machine) (setBack t) 0
+  restored-inv ρ f₀ n t h c l r (Recovers.refuses k z b e) a = absurd (restored-apart a (ap (λ (o : Outcome). o .answer) e))
+  restored-inv ρ f₀ n t h c l r (Recovers.reads z a values s e) _ =
+      let g = outcome-made (envOf p words) m js q shape z r (Recovers.reads z a values s e) in
+      subst (λ (o : Outcome). Inv p ρ f₀ n (o .machine) (setBack t) 0) (sym (g .is))
+      (state-inv p words plan safe (m .journal) js (g .rest) (g .shape) (g .values) (g .saved) ρ f₀ n t h c l (not-long z))

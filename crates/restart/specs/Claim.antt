@@ -1,0 +1,162 @@
+-- Demand 3 as one claim about histories: document 01, "Demand 3 is a single claim about the list, not one for each call." `Claim` holds of every history
+-- (`claim` of proofs/Theorem.antt), and 01's own lists are an instance (`demand-3` there).
+-- Assumes nothing.
+use Prim.Native.Nat.{ℕ, _+_, _*_, _≤_, _<_}
+use mathlib.Core.Path.{_≡_}
+use mathlib.Core.Bool.{Bool, true, cond, _&&_, _||_}
+use mathlib.Core.List.{List, [], _∷_, _++_}
+use mathlib.Core.Logic.{_⊎_}
+use lib.IntN.{ℤ, pos, negsuc}
+use lib.ListN.{length, getD, take, replicate}
+use lib.Dec.{eqb}
+use Rattle.instruction.specs.Bytes.{byte, cellsOf, instructionAt}
+use Rattle.instruction.specs.Table.{mayDef}
+use Rattle.program.specs.Places.{isExclude, excludeNumber}
+use Rattle.cellset.specs.Bits.{member}
+use Rattle.execution.specs.Effects.{countFull}
+use Rattle.analysis.specs.Paths.{Live, Dead, Region}
+use Rattle.analysis.specs.Analyse.{Analyses}
+use Rattle.analysis.specs.declared.Analysed.the-variants.{Sets}
+use Rattle.journal.specs.Format.{Checkpoint}
+use Rattle.journal.specs.Reading.{first, factsOf, lastOf, savedValue}
+use Rattle.journal.specs.Shape.{Shape}
+use Rattle.machine.specs.State.{envOf, Machine}
+use Rattle.machine.specs.Run.{refusalOf, Outcome}
+use Rattle.machine.specs.Ready.{Legal}
+use Rattle.machine.specs.declared.Ended.{Ended}
+use Rattle.machine.specs.declared.Ended.the-variants.{Stopped}
+use Rattle.recovery.specs.Recover as recovery
+use Rattle.recovery.specs.Recover.{Recovers}
+use Rattle.recovery.specs.declared.Recovered.the-variants as recovered
+use Rattle.restart.specs.Reference.{Frame, zeros, frameOf, Numbered, numberedFrom, refAt, emitted, taken}
+use Rattle.restart.specs.History.{System, Request, Accepted, wrote, lent, outcomeOf, tallyAfter, ran, History}
+
+-- ---- what a history rests on
+
+-- a plan that check accepts, of bytes
+pub record Plan (p : List ℕ) : Type 0 where
+  pub legal : Legal p
+  pub bytes : (k : ℕ) → getD p k 0 < 256
+
+-- words that a restart may rely on: a cell of DE is dead at each CHECKPOINT of the region, and no instruction of the region may write a cell of RO. Those that
+-- analyse finds are so (`found-safe` of proofs/Sets.antt); larger or smaller sets may be too
+pub record Safe (p words : List ℕ) : Type 0 where
+  pub enough : 512 ≤ length words
+  pub dead : (e c : ℕ) → isExclude p e ≡ true → c < cellsOf p → member words (8 * excludeNumber p e) c ≡ 1 → (o : ℕ) → Region p e o → byte p o ≡ 0x0E → ¬ Live p c o
+  pub kept : (e c : ℕ) → isExclude p e ≡ true → c < cellsOf p → member words (8 * excludeNumber p e + 4) c ≡ 1 → (o : ℕ) → Region p e o
+      → mayDef (instructionAt p o) c ≡ 0
+
+-- the checkpoints js take a run up where f stands: the last commit has its place and counts, the cells that are live there have their values, and the place lies
+-- in the region of the last commit's EXCLUDE, if it has one
+pub record Resumes (p : List ℕ) (js : List Checkpoint) (f : Frame) : Type 0 where
+  pub place : lastOf first js .place ≡ f .pc
+  pub readings : lastOf first js .readings ≡ f .readings
+  pub outputs : lastOf first js .outputs ≡ f .outputs
+  pub runs : f .stop ≡ 0
+  pub size : length (f .cells) ≡ 256
+  pub cells : (c : ℕ) → Live p c (f .pc) → savedValue c js 0 ≡ getD (f .cells) c 0
+  pub region : ¬ (lastOf first js .exclude ≡ 0) → Region p (lastOf first js .exclude) (f .pc)
+
+-- a journal that can be taken up where f stands: whole sound checkpoints, then nothing or a part of one, then FF
+pub record TakenUp (p : List ℕ) (f : Frame) (chip : List ℕ) : Type 0 where
+  pub saves : List Checkpoint
+  pub torn : List ℕ
+  pub shape : Shape (factsOf p) chip saves torn
+  pub resumes : Resumes p saves f
+
+-- ---- the claim
+
+-- "place, counts, kind of stop and every cell not dead before that place"
+pub record Agrees (p : List ℕ) (f g : Frame) : Type 0 where
+  pub pc : f .pc ≡ g .pc
+  pub readings : f .readings ≡ g .readings
+  pub outputs : f .outputs ≡ g .outputs
+  pub stop : f .stop ≡ g .stop
+  pub cells : (c : ℕ) → c < cellsOf p → ¬ Dead p c (f .pc) → getD (f .cells) c 0 ≡ getD (g .cells) c 0
+
+-- "Repetitions aside": without each output, number and value, that stands before it already
+abbrev pub sameValue : ℤ → ℤ → Bool
+sameValue (pos a) (pos b) = eqb a b
+sameValue (negsuc a) (negsuc b) = eqb a b
+sameValue (pos a) (negsuc b) = Bool.false
+sameValue (negsuc a) (pos b) = Bool.false
+
+unfoldable pub stands : Numbered → List Numbered → Bool
+stands o [] = Bool.false
+stands o (x ∷ xs) = (eqb (o .number) (x .number) && sameValue (o .value) (x .value)) || stands o xs
+
+-- behind those of `seen`
+unfoldable pub distinct : (seen : List Numbered) → List Numbered → List Numbered
+distinct seen [] = seen
+distinct seen (o ∷ os) = distinct (cond (stands o seen) seen (seen ++ o ∷ [])) os
+
+-- a READ or EMIT that stops since its count is full asks for a reading or a place first
+abbrev pub spare : (stop : ℕ) → ℕ
+spare k = cond (eqb k countFull) 1 0
+
+module _ (p : List ℕ) (ρ : List ℤ) (f₀ : Frame) (n t₀ : ℕ) (Words : List ℕ → Type 0) where
+  -- a run that is given the readings and the room that the uncut run's first k commands need: as many readings, or all that remain, and a place for each output
+  pub record Suffices (k : ℕ) (s : System) (r : Request) : Type 0 where
+    pub words : Words (r .words)
+    pub readings : let given = s .machine .regs .readings + length (lent p ρ (s .machine) r) in
+        (refAt p ρ f₀ k .readings + spare (refAt p ρ f₀ k .stop) ≤ given) ⊎ (length ρ ≤ given)
+    pub room : refAt p ρ f₀ k .outputs + spare (refAt p ρ f₀ k .stop) ≤ s .machine .regs .outputs + length (r .places)
+    pub accepted : Accepted (outcomeOf p ρ (s .machine) r .ended)
+
+  -- such runs one after the other, with no recovery between; their budgets in all, and the last one's answer
+  pub data Chain (k : ℕ) (s : System) : (budgets : ℕ) → Ended → System → Type 0 where
+    one : (r : Request) → Suffices k s r → Chain k s (r .budget) (outcomeOf p ρ (s .machine) r .ended) (ran p ρ s r)
+    more : {b : ℕ} {x : Ended} {s′ : System} → Chain k s b x s′ → (r : Request) → Suffices k s′ r
+        → Chain k s (b + r .budget) (outcomeOf p ρ (s′ .machine) r .ended) (ran p ρ s′ r)
+
+  pub record Claim (s : System) : Type 0 where
+    -- "After each accepted call that no cut ended, place, counts, kind of stop and every cell not dead before that place are the uncut run's after as many
+    -- commands as the tally says."
+    pub follows : s .good ≡ true → Agrees p (frameOf (s .machine)) (refAt p ρ f₀ (s .tally .retired))
+    -- "Each accepted run, cut or not, takes the readings and writes the outputs, numbers and order included, that the uncut run has between the tallies before
+    -- and after it."
+    pub takes : s .good ≡ true → (r : Request) → Words (r .words) → let o = outcomeOf p ρ (s .machine) r in
+        numberedFrom (s .machine .regs .readings) (take (o .taken) (lent p ρ (s .machine) r))
+        ≡ taken p ρ f₀ (s .tally .retired) (tallyAfter p ρ s r .retired)
+    pub writes : s .good ≡ true → (r : Request) → Words (r .words) → let o = outcomeOf p ρ (s .machine) r in
+        wrote (s .machine) o ≡ emitted p ρ f₀ (s .tally .retired) (tallyAfter p ρ s r .retired)
+    -- "Repetitions aside, the outputs so far are the uncut run's up to the highest tally, after a stop all of them."
+    pub outputs : distinct [] (s .outputs) ≡ emitted p ρ f₀ t₀ (s .tally .highest)
+    pub all : ¬ (refAt p ρ f₀ (s .tally .highest) .stop ≡ 0) → (k : ℕ) → s .tally .highest ≤ k → distinct [] (s .outputs) ≡ emitted p ρ f₀ t₀ k
+    pub stopped : s .good ≡ true → ¬ (s .machine .regs .stop ≡ 0) → ¬ (refAt p ρ f₀ (s .tally .highest) .stop ≡ 0)
+    -- "With that plan, those sets and that chip, recovery never gives 12": with any state it has an outcome, and each is accepted, unless the chip is too long
+    pub recoverable : n ≤ 65536 → (words : List ℕ) → Words words → (m : Machine) → m .journal ≡ s .machine .journal
+        → (r : recovery.Outcome) × Recovers (envOf p words) m r
+    pub taken-up : n ≤ 65536 → (words : List ℕ) → Words words → (m : Machine) → m .journal ≡ s .machine .journal
+        → (r : recovery.Outcome) → Recovers (envOf p words) m r → r .answer ≡ recovered.Restored
+    pub not-damaged : (words : List ℕ) → Words words → (m : Machine) → m .journal ≡ s .machine .journal
+        → (r : recovery.Outcome) → Recovers (envOf p words) m r → ¬ (r .answer ≡ recovered.Refused 12)
+    -- "and a run never gives 10 on a state that an accepted call left and no cut has since spoiled": it is never refused
+    pub accepted : s .good ≡ true → (words : List ℕ) → Words words → refusalOf (envOf p words) (s .machine) ≡ 0
+    -- "If the uncut run stops after n commands, at most n plus twice the chip's length steps follow an accepted recovery before the next"
+    pub steps : (k : ℕ) → ¬ (refAt p ρ f₀ k .stop ≡ 0) → s .steps ≤ k + 2 * n
+    -- "so accepted runs given budget, readings and room, with no recovery between, reach that stop."
+    pub stops : s .good ≡ true → (k : ℕ) → ¬ (refAt p ρ f₀ k .stop ≡ 0) → (b : ℕ) (x : Ended) (s′ : System) → Chain k s b x s′ → k + 2 * n ≤ b
+        → x ≡ Stopped (refAt p ρ f₀ k .stop)
+
+-- ---- 01's own lists
+
+-- "begins on an erased chip"
+abbrev pub Erased : ℕ → List ℕ → Type 0
+Erased n chip = chip ≡ replicate n 0xFF
+
+-- "the sets found for it": an accepted call of analyse left these words, in a buffer whose later words are any
+pub record Found (p words : List ℕ) : Type 0 where
+  pub lent : List ℕ
+  pub dead-lent : List ℕ
+  pub dead : List ℕ
+  pub cells : ℕ
+  pub instructions : ℕ
+  pub excludes : ℕ
+  pub analyses : Analyses p dead-lent lent dead words (Sets cells instructions excludes)
+
+-- demand 3: for every accepted plan, all readings, every chip's length and every list
+abbrev pub Demand3 : Type 0
+Demand3 =
+    (p : List ℕ) → Plan p → (ρ : List ℤ) (n : ℕ) (words : List ℕ) → Found p words → (s : System)
+    → History p ρ n 0 (Erased n) (λ w. w ≡ words) s → Claim p ρ zeros n 0 (λ w. w ≡ words) s

@@ -1,0 +1,4 @@
+pub mod Reference
+pub mod History
+pub mod Claim
+pub mod Rows

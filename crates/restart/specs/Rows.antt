@@ -1,0 +1,151 @@
+-- Document 01's rows marked (M), section "A small plan", as one table. Each row claims something of the definitions that the contracts cite; all of them hold
+-- (`rows-hold` of proofs/Rows.antt).
+-- Assumes nothing.
+use Prim.Native.Nat.{ℕ, _≤_}
+use mathlib.Core.Path.{_≡_}
+use mathlib.Core.Bool.{Bool, true, false}
+use mathlib.Core.List.{List, [], _∷_, map}
+use lib.IntN.{ℤ, pos, negsuc}
+use lib.ListN.{length, getD, take, replicate}
+use Rattle.word.specs.Word.{bitsOf}
+use Rattle.instruction.specs.declared.Instruction.{Instruction}
+use Rattle.instruction.specs.declared.Instruction.the-variants.{Add, Div, Put}
+use Rattle.execution.specs.Effects.{Effect, writes, effectOf, cellsIn}
+use Rattle.analysis.specs.Rows as analysis
+use Rattle.analysis.specs.Rows.{row, deadBefore, deOf, roOf}
+use Rattle.marks.specs.declared.Mark.{Mark}
+use Rattle.marks.specs.declared.Mark.the-variants.{Pending, Dead}
+use Rattle.marks.specs.Marks.{excluded}
+use Rattle.machine.specs.State.{Env, envOf, Machine}
+use Rattle.machine.specs.Run.{Outcome, callOf}
+use Rattle.machine.specs.declared.Ended.{Ended}
+use Rattle.machine.specs.declared.Ended.the-variants.{NoReading, Spent}
+use Rattle.recovery.specs.Recover as recovery
+use Rattle.recovery.specs.Recover.{Recovers}
+use Rattle.recovery.specs.declared.Recovered.the-variants.{Restored}
+use Rattle.restart.specs.Reference.{zeros, numberedFrom, emitted}
+use Rattle.restart.specs.History.{wrote}
+
+-- ---- runs
+
+-- a first run: a plan and the words of its sets, the length of the chip, which is erased, the readings lent, the budget, and the places for outputs
+pub record Trial : Type 0 where
+  pub program : List ℕ
+  pub words : List ℕ
+  pub chip : ℕ
+  pub readings : List ℤ
+  pub budget : ℕ
+  pub places : List ℤ
+
+abbrev pub envIn : Trial → Env
+envIn t = envOf (t .program) (t .words)
+
+-- what the run leaves, from a machine
+unfoldable pub ranFrom : Trial → Machine → Outcome
+ranFrom t m = callOf (envIn t) (t .readings) (t .budget) m (t .places)
+
+-- recovery with this chip and any state: it has an outcome, and each is accepted and leaves a machine that Q holds of
+abbrev pub AfterRecovery : Env → List ℕ → (Machine → Type 0) → Type 0
+AfterRecovery e chip Q =
+    (m : Machine) → m .journal ≡ chip
+    → ((r : recovery.Outcome) × Recovers e m r) × ((r : recovery.Outcome) → Recovers e m r → (r .answer ≡ Restored) × Q (r .machine))
+
+-- "Every run begins with recovery, on an erased chip too": from the machine that it leaves, the run ends with x, and Q holds of that machine and of what the run leaves
+abbrev pub AfterRun : Trial → Ended → (Machine → Outcome → Type 0) → Type 0
+AfterRun t x Q = AfterRecovery (envIn t) (replicate (t .chip) 0xFF) (λ m. (ranFrom t m .ended ≡ x) × Q m (ranFrom t m))
+
+-- ---- rows
+
+-- a constructor to a kind of row
+pub data Row : Type 0 where
+  -- the cells of a set
+  setIs : (r : analysis.Row) → Row
+  -- a run that takes all readings gives these outputs, numbered from 0, and so does the uncut run after so many commands or more
+  outputsAre : (t : Trial) (commands : ℕ) (values : List ℤ) → Row
+  -- it leaves a chip that begins with these bytes, or a chip of exactly these
+  chipBegins : (t : Trial) (bytes : List ℕ) → Row
+  chipIs : (t : Trial) (bytes : List ℕ) → Row
+  -- a run that the budget ends after it has stored so many bytes: recovery with that chip gives cell c the value v, and these counts
+  cutAfter : (t : Trial) (stored c : ℕ) (v : ℤ) (readings outputs : ℕ) → Row
+  -- an EXCLUDE sets a mark, of a cell that is in DE and RO or not
+  markBecomes : (mark : Mark) (de ro : Bool) (after : Mark) → Row
+  -- the effect of an instruction where the first cells have these values
+  effectIs : (i : Instruction) (values : List ℤ) (e : Effect) → Row
+
+-- what a row claims
+abbrev pub Holds : Row → Type 0
+Holds (setIs r) = analysis.Holds r
+Holds (outputsAre t n vs) =
+    AfterRun t NoReading (λ m o. wrote m o ≡ numberedFrom 0 vs)
+    × ((k : ℕ) → n ≤ k → emitted (t .program) (t .readings) zeros 0 k ≡ numberedFrom 0 vs)
+Holds (chipBegins t bytes) = AfterRun t NoReading (λ m o. take (length bytes) (o .machine .journal) ≡ bytes)
+Holds (chipIs t bytes) = AfterRun t NoReading (λ m o. o .machine .journal ≡ bytes)
+Holds (cutAfter t n c v i j) =
+    AfterRun t Spent (λ m o.
+    (o .machine .regs .write ≡ n)
+    × AfterRecovery (envIn t) (o .machine .journal) (λ m′.
+    (getD (m′ .cells) c 0 ≡ bitsOf v) × (m′ .regs .readings ≡ i) × (m′ .regs .outputs ≡ j)))
+Holds (markBecomes k de ro after) = excluded k de ro ≡ after
+Holds (effectIs i vs e) = effectOf i (pos 0) 0 0 (cellsIn (map bitsOf vs)) ≡ e
+
+-- each of the rows holds
+abbrev pub Hold : List Row → Type 0
+Hold [] = Unit
+Hold (r ∷ rs) = Holds r × Hold rs
+
+-- ---- the table; `negsuc n` is −1 − n
+
+-- "`02 02 00 00 00 00 00 07 01 04 00 00 01 08 00 0D 0E 09 07 00`, 20 bytes"
+abbrev pub small : List ℕ
+small = 0x02 ∷ 0x02 ∷ 0 ∷ 0 ∷ 0 ∷ 0 ∷ 0 ∷ 0x07 ∷ 0x01 ∷ 0x04 ∷ 0 ∷ 0 ∷ 0x01 ∷ 0x08 ∷ 0 ∷ 0x0D ∷ 0x0E ∷ 0x09 ∷ 0x07 ∷ 0 ∷ []
+
+-- its sets: bits 1 and 2 for DE, bit 2 for RO, in words 0 and 4 of 512
+unfoldable pub smallSets : List ℕ
+smallSets = 6 ∷ 0 ∷ 0 ∷ 0 ∷ 4 ∷ 0 ∷ 0 ∷ 0 ∷ replicate 504 0
+
+-- it on a chip of n bytes with so much budget, the readings 5, 7, −2, and places enough
+abbrev pub trial : (n budget : ℕ) → Trial
+trial n budget =
+    record {
+      program = small;
+      words = smallSets;
+      chip = n;
+      readings = pos 5 ∷ pos 7 ∷ negsuc 1 ∷ [];
+      budget = budget;
+      places = replicate 8 (pos 0);
+    }
+
+-- the bytes of the row "first save"
+abbrev pub firstSave : List ℕ
+firstSave =
+    0xA1 ∷ 0x00 ∷ 0x05 ∷ 0x00 ∷ 0x00 ∷ 0x00 ∷ 0xA2 ∷ 0x11 ∷ 0x00 ∷ 0x0F ∷ 0x00 ∷ 0x01 ∷ 0x00 ∷ 0x00 ∷ 0x00 ∷ 0x01 ∷ 0x00 ∷ 0x00 ∷ 0x00 ∷ 0x5A ∷ []
+
+-- a line of 01 to a comment
+abbrev pub rows : List Row
+rows =
+    -- "the sets above": "15 dead 1 2 fixed 2 saved 0"
+    setIs (row small (deOf 15) (1 ∷ 2 ∷ []))
+    ∷ setIs (row small (roOf 15) (2 ∷ []))
+    -- "dead before offset 9: cell 2 only"
+    ∷ setIs (row small (deadBefore 9) (2 ∷ []))
+    -- "`00 0D 01`: DE empty, RO cell 0"
+    ∷ setIs (row (0x00 ∷ 0x0D ∷ 0x01 ∷ []) (deOf 1) [])
+    ∷ setIs (row (0x00 ∷ 0x0D ∷ 0x01 ∷ []) (roOf 1) (0 ∷ []))
+    -- "readings 5, 7, −2: outputs 5, 12, 10"
+    ∷ outputsAre (trial 60 1000) 19 (pos 5 ∷ pos 12 ∷ pos 10 ∷ [])
+    -- "first save `A1 00 05 00 00 00 A2 11 00 0F 00 01 00 00 00 01 00 00 00 5A`"
+    ∷ chipBegins (trial 60 1000) firstSave
+    -- "20 bytes of chip hold it, 19 none"
+    ∷ chipIs (trial 20 1000) firstSave
+    ∷ chipIs (trial 19 1000) (replicate 19 0xFF)
+    -- "cut after 33 bytes: cell 0 is 5, both counts 1"; the 45th step stores the 33rd byte
+    ∷ cutAfter (trial 60 45) 33 0 (pos 5) 1 1
+    -- "Dead, in RO alone: Pending"
+    ∷ markBecomes Dead false true Pending
+    -- "7 / −2 = −3"
+    ∷ effectIs (Div 0 0 1) (pos 7 ∷ negsuc 1 ∷ []) (writes 0 (bitsOf (negsuc 2)))
+    -- "2,147,483,647 + 1 = −2,147,483,648"
+    ∷ effectIs (Add 0 0 1) (pos 2147483647 ∷ pos 1 ∷ []) (writes 0 (bitsOf (negsuc 2147483647)))
+    -- "index −1 of 4 is place 3": PUT stores cell 5 in the table of cells 0 to 3, by the index in cell 4
+    ∷ effectIs (Put 0 4 4 5) (pos 0 ∷ pos 0 ∷ pos 0 ∷ pos 0 ∷ negsuc 0 ∷ pos 9 ∷ []) (writes 3 (bitsOf (pos 9)))
+    ∷ []

@@ -1,0 +1,232 @@
+//! Engines with one error each, on which the watch has to fail. Each is a sound engine in a wrapper that lets it take
+//! its steps one by one and alters one thing: the sets, a recovery, a step, or an answer.
+
+use reference::analysis::analyse_with;
+use reference::journal::{read, ERASED, MARK_END};
+use reference::machine::{Ended, Mark, State, Stop};
+use reference::program::{Instruction, CHECKPOINT, EXCLUDE};
+use reference::refusal::STATE_NOT_SOUND;
+
+use crate::engine::{fill, Engine, Lent, Ran};
+
+/// What is altered.
+#[derive(Clone, Copy, Debug, PartialEq, Eq)]
+pub enum Alter {
+    Nothing,
+    /// Document 001's rule: a Dead cell that becomes read-only stays Dead.
+    DeadStaysDead,
+    /// A save that is passed over makes Pending cells Kept.
+    KeptByPassedOver,
+    /// The analysis takes a PUT for a sure write of its whole table.
+    SurePut,
+    /// The torn bytes are erased from the lowest address on.
+    EraseUpward,
+    /// Recovery takes a save for whole that lacks its final 5A.
+    WholeBefore5A,
+    /// EMIT raises the count, and where the budget ends there the value is never handed on.
+    CountedBeforeGiven,
+    /// After the first save the engine only says that it stores.
+    OnlySaysSo,
+    /// Recovery gives a count of outputs that is 1 too high.
+    CountsAhead,
+    /// Every stop is a divisor's.
+    OtherStop,
+    /// The answer has a reading too many.
+    TakesOneMore,
+    /// A run is refused while a save is at work.
+    RefusesSaving,
+    /// A byte erased leaves as many to erase.
+    ErasesForever,
+    /// A run answers spent before its first step.
+    SpentAtOnce,
+    /// A refused call clears the state.
+    RefusedClears,
+    /// Recovery itself erases the torn bytes.
+    RecoveryErases,
+    /// The answer of a run of several steps has one more.
+    InventsAStep,
+}
+
+/// A sound engine with the alteration.
+pub struct Altered<E> {
+    pub engine: E,
+    pub alter: Alter,
+}
+
+impl<E: Engine> Engine for Altered<E> {
+    fn analyse(&self, plan: &[u8], sets: &mut [u64]) {
+        if self.alter != Alter::SurePut {
+            return self.engine.analyse(plan, sets);
+        }
+        let found = analyse_with(plan, Instruction::may_write);
+        fill(sets, &found.expect("the plan is accepted"));
+    }
+
+    fn recover(&self, lent: Lent) -> Result<(), u32> {
+        let (chip, state) = (lent.chip, lent.state);
+        let mut seen = chip.to_vec();
+        if self.alter == Alter::WholeBefore5A {
+            add_final_byte(lent.plan, &mut seen);
+        }
+        let answer = self.engine.recover(Lent {
+            chip: &mut seen,
+            state,
+            ..lent
+        });
+        match answer {
+            Ok(()) => self.alter_recovered(chip, state),
+            Err(_) => self.alter_refused(state),
+        }
+        answer
+    }
+
+    fn run(
+        &self,
+        lent: Lent,
+        readings: &[i32],
+        outputs: &mut [i32],
+        budget: u64,
+    ) -> Result<Ran, u32> {
+        let (plan, sets, chip, state) = (lent.plan, lent.sets, lent.chip, lent.state);
+        let budget = self.alter_budget(budget, state)?;
+        let mut ran = Ran::default();
+        let mut gave = false;
+        loop {
+            let before = Before::of(chip, state);
+            let lent = Lent {
+                plan,
+                sets,
+                chip,
+                state,
+            };
+            let one = (budget - ran.steps).min(1);
+            let room = &mut outputs[ran.written..];
+            let answer = self.engine.run(lent, &readings[ran.taken..], room, one);
+            let next = answer.inspect_err(|_| self.alter_refused(state))?;
+            ran = ran.then(next);
+            if next.steps == 0 {
+                return Ok(self.altered_answer(ran, gave));
+            }
+            self.alter_step(plan, &before, chip, state);
+            gave = next.written > 0;
+        }
+    }
+}
+
+/// Chip and state before a step; no state where the bytes are none, which every engine refuses.
+struct Before {
+    chip: Vec<u8>,
+    state: Option<State>,
+}
+
+impl Before {
+    fn of(chip: &[u8], state: &[u8]) -> Before {
+        Before {
+            chip: chip.to_vec(),
+            state: State::from_bytes(state),
+        }
+    }
+}
+
+impl<E> Altered<E> {
+    fn alter_budget(&self, budget: u64, state: &[u8]) -> Result<u64, u32> {
+        let is_saving = || State::from_bytes(state).is_some_and(|state| state.saving.is_some());
+        match self.alter {
+            Alter::SpentAtOnce => Ok(0),
+            Alter::RefusesSaving if is_saving() => Err(STATE_NOT_SOUND),
+            _ => Ok(budget),
+        }
+    }
+
+    fn alter_refused(&self, state: &mut [u8]) {
+        if self.alter == Alter::RefusedClears {
+            state.fill(0);
+        }
+    }
+
+    fn alter_recovered(&self, chip: &mut [u8], state: &mut [u8]) {
+        let mut recovered = State::from_bytes(state).expect("recovery leaves a state");
+        match self.alter {
+            Alter::CountsAhead => recovered.outputs = recovered.outputs.wrapping_add(1),
+            Alter::RecoveryErases => chip[recovered.write as usize..].fill(ERASED),
+            _ => {}
+        }
+        state.copy_from_slice(&recovered.to_bytes());
+    }
+
+    fn alter_step(&self, plan: &[u8], before: &Before, chip: &mut [u8], bytes: &mut [u8]) {
+        let after = State::from_bytes(bytes).expect("a step leaves a state");
+        let Some(state) = &before.state else { return };
+        let mut altered = after.clone();
+        let command = match state.erase == 0 && state.saving.is_none() {
+            true => plan[state.place as usize],
+            false => 0,
+        };
+        let write = state.write as usize;
+        match (self.alter, state.saving) {
+            (Alter::DeadStaysDead, _) if command == EXCLUDE => {
+                keep_dead(&state.marks, &mut altered.marks);
+            }
+            (Alter::KeptByPassedOver, _) if command == CHECKPOINT && after.saving.is_none() => {
+                keep_pending(&mut altered.marks);
+            }
+            (Alter::EraseUpward, _) if state.erase > 0 => {
+                chip[write..].copy_from_slice(&before.chip[write..]);
+                erase_lowest(&mut chip[write..]);
+            }
+            (Alter::OnlySaysSo, Some(stored)) if stored < state.write => {
+                chip[write] = before.chip[write];
+            }
+            (Alter::ErasesForever, _) => altered.erase = state.erase,
+            (Alter::OtherStop, _) => altered.stop = after.stop.map(|_| Stop::Divisor),
+            _ => {}
+        }
+        bytes.copy_from_slice(&altered.to_bytes());
+    }
+
+    /// The answer, where `gave` says whether the last step gave an output.
+    fn altered_answer(&self, mut ran: Ran, gave: bool) -> Ran {
+        match self.alter {
+            Alter::CountedBeforeGiven if gave && ran.ended == Ended::Spent.number() => {
+                ran.written -= 1;
+            }
+            Alter::TakesOneMore if ran.taken > 0 => ran.taken += 1,
+            Alter::InventsAStep if ran.steps > 1 => ran.steps += 1,
+            _ => {}
+        }
+        ran
+    }
+}
+
+fn keep_dead(before: &[Mark], after: &mut [Mark]) {
+    for (before, after) in before.iter().zip(after) {
+        if (*before, *after) == (Mark::Dead, Mark::Pending) {
+            *after = Mark::Dead;
+        }
+    }
+}
+
+fn keep_pending(marks: &mut [Mark]) {
+    for mark in marks.iter_mut().filter(|mark| **mark == Mark::Pending) {
+        *mark = Mark::Kept;
+    }
+}
+
+fn erase_lowest(chip: &mut [u8]) {
+    if let Some(lowest) = chip.iter_mut().find(|byte| **byte != ERASED) {
+        *lowest = ERASED;
+    }
+}
+
+/// Puts 5A behind torn bytes that lack nothing else of a save.
+fn add_final_byte(plan: &[u8], chip: &mut [u8]) {
+    let ends = |chip: &[u8]| read(plan, chip).map(|held| (held.end, held.end + held.torn));
+    if let Ok((_, last)) = ends(chip) {
+        if last < chip.len() {
+            chip[last] = MARK_END;
+            if ends(chip) != Ok((last + 1, last + 1)) {
+                chip[last] = ERASED;
+            }
+        }
+    }
+}

@@ -1,0 +1,143 @@
+//! Calls of any content, most of which are refused. A refused call among those of a list must alter nothing.
+
+use reference::journal::MAX_CHIP;
+use reference::layout::{NUMBERS_AT, STATE_BYTES};
+use reference::machine::SET_WORDS;
+
+use crate::engine::{Engine, Lent};
+use crate::plans::plan;
+use crate::rng::Rng;
+use crate::sentence::{Sentence, Violation};
+use crate::watch::Watch;
+
+/// The refusals by number, as they are counted.
+const REFUSED: [&str; 13] = [
+    "accepted, so in no list",
+    "refused 1",
+    "refused 2",
+    "refused 3",
+    "refused 4",
+    "refused 5",
+    "refused 6",
+    "refused 7",
+    "refused 8",
+    "refused 9",
+    "refused 10",
+    "refused 11",
+    "refused 12",
+];
+
+/// Everything that is lent to a call, with the outputs' places.
+#[derive(Clone, PartialEq, Eq)]
+struct Content {
+    plan: Vec<u8>,
+    sets: Vec<u64>,
+    chip: Vec<u8>,
+    state: Vec<u8>,
+    outputs: Vec<i32>,
+}
+
+/// Makes a call of random content, where the list stands. It gets copies of the list's chip and state, so that it
+/// alters nothing where it is accepted: then it is no call of the list.
+pub fn try_call<E: Engine>(watch: &mut Watch<E>, rng: &mut Rng) -> Result<(), Violation> {
+    let mut content = Content {
+        plan: watch.plan().to_vec(),
+        sets: watch.sets().to_vec(),
+        chip: watch.chip().to_vec(),
+        state: watch.state().to_vec(),
+        outputs: vec![-77; rng.below(4)],
+    };
+    for _ in 0..1 + rng.below(2) {
+        spoil_content(&mut content, rng);
+    }
+    let before = content.clone();
+    let lent = Lent {
+        plan: &content.plan,
+        sets: &content.sets,
+        chip: &mut content.chip,
+        state: &mut content.state,
+    };
+    let engine = watch.engine();
+    let answer = match rng.below(2) {
+        0 => engine.recover(lent),
+        _ => engine
+            .run(lent, &[1, 2, 3], &mut content.outputs, 20)
+            .map(|_| ()),
+    };
+    let number = answer.err().unwrap_or(0);
+    let is_number = (number as usize) < REFUSED.len();
+    if (number == 0 || content == before) && is_number {
+        watch.met.count(REFUSED[number as usize]);
+        return Ok(());
+    }
+    Err(Violation {
+        sentence: Sentence::RefusedCall,
+        text: format!("refused {number} altered what was lent, or is no number"),
+    })
+}
+
+/// Spoils one of the plan, the words, the chip and the state.
+fn spoil_content(content: &mut Content, rng: &mut Rng) {
+    match rng.below(8) {
+        0..4 => content.plan = refused_plan(rng),
+        4 => content.sets.truncate(rng.below(SET_WORDS)),
+        5 => spoil_chip(&mut content.chip, rng),
+        6 if content.state.len() == STATE_BYTES => content.state = spoiled(&content.state, rng),
+        _ => content.state.resize(rng.below(2 * STATE_BYTES), 0),
+    }
+}
+
+/// Document 01's examples of refused plans, or a random plan with a byte altered or cut off.
+fn refused_plan(rng: &mut Rng) -> Vec<u8> {
+    let mut altered = plan(rng);
+    match rng.below(12) {
+        0 => vec![],
+        1 => vec![0x00, 0x7F],
+        2 => vec![0x00, 0x08],
+        3 => vec![0x00, 0x08, 0x01],
+        4 => vec![0x00, 0x0B, 0x00, 0x00, 0x02, 0x00],
+        5 => [vec![0x00], vec![0x01; 513]].concat(),
+        6 => vec![0x00],
+        7 => vec![0x00, 0x09, 0x02, 0x00],
+        8 => {
+            altered.truncate(rng.below(altered.len()));
+            altered
+        }
+        _ => {
+            let at = rng.below(altered.len());
+            altered[at] = rng.byte();
+            altered
+        }
+    }
+}
+
+fn spoil_chip(chip: &mut Vec<u8>, rng: &mut Rng) {
+    match rng.below(3) {
+        0 => chip.resize(MAX_CHIP + 1, 0xFF),
+        1 => *chip = vec![0x00, 0xFF],
+        _ => {
+            let at = rng.below(chip.len() + 1);
+            chip.truncate(at);
+            chip.extend([rng.byte(), rng.byte()]);
+        }
+    }
+}
+
+/// A state of the right length that may hold anything: often much like the one given.
+pub fn spoiled(state: &[u8], rng: &mut Rng) -> Vec<u8> {
+    let mut state = state.to_vec();
+    match rng.below(5) {
+        0 => state.iter_mut().for_each(|byte| *byte = rng.byte()),
+        1 => state.fill(rng.pick(&[0x00, 0xFF])),
+        2 => state[NUMBERS_AT..]
+            .iter_mut()
+            .for_each(|byte| *byte = rng.below(3) as u8),
+        3 => {
+            for _ in 0..1 + rng.below(6) {
+                state[rng.below(STATE_BYTES)] = rng.byte();
+            }
+        }
+        _ => {}
+    }
+    state
+}

@@ -1,0 +1,95 @@
+//! What an engine is to the harness, and the Rust version as one.
+
+use reference::layout::{recover_bytes, run_bytes};
+use reference::Analysis;
+
+/// What the host lends to every call. A state is bytes, as docs/STATE.md lays them out.
+pub struct Lent<'a> {
+    pub plan: &'a [u8],
+    pub sets: &'a [u64],
+    pub chip: &'a mut [u8],
+    pub state: &'a mut [u8],
+}
+
+/// What an accepted run answers: how it ended, as a number of the C interface, and its steps, readings taken and
+/// outputs written.
+#[derive(Clone, Copy, Debug, Default, PartialEq, Eq)]
+pub struct Ran {
+    pub ended: u32,
+    pub steps: u64,
+    pub taken: usize,
+    pub written: usize,
+}
+
+impl Ran {
+    pub fn is_stopped(&self) -> bool {
+        (1..=3).contains(&self.ended)
+    }
+
+    /// This run followed by another, as one.
+    pub fn then(self, next: Ran) -> Ran {
+        Ran {
+            ended: next.ended,
+            steps: self.steps + next.steps,
+            taken: self.taken + next.taken,
+            written: self.written + next.written,
+        }
+    }
+}
+
+/// An engine: its analysis, recovery and run. A refusal is document 01's number.
+pub trait Engine {
+    /// Fills the words with DE and RO of an accepted plan; later words remain.
+    fn analyse(&self, plan: &[u8], sets: &mut [u64]);
+
+    fn recover(&self, lent: Lent) -> Result<(), u32>;
+
+    fn run(
+        &self,
+        lent: Lent,
+        readings: &[i32],
+        outputs: &mut [i32],
+        budget: u64,
+    ) -> Result<Ran, u32>;
+}
+
+/// The Rust version.
+pub struct Reference;
+
+impl Engine for Reference {
+    fn analyse(&self, plan: &[u8], sets: &mut [u64]) {
+        fill(
+            sets,
+            &reference::analyse(plan).expect("the plan is accepted"),
+        );
+    }
+
+    fn recover(&self, lent: Lent) -> Result<(), u32> {
+        recover_bytes(lent.plan, lent.sets, lent.chip, lent.state)
+    }
+
+    fn run(
+        &self,
+        lent: Lent,
+        readings: &[i32],
+        outputs: &mut [i32],
+        budget: u64,
+    ) -> Result<Ran, u32> {
+        let room = outputs.len();
+        let (chip, state) = (lent.chip, lent.state);
+        let ran = run_bytes(lent.plan, lent.sets, chip, state, readings, room, budget)?;
+        outputs[..ran.given.len()].copy_from_slice(&ran.given);
+        Ok(Ran {
+            ended: ran.ended.number(),
+            steps: ran.steps,
+            taken: ran.taken,
+            written: ran.given.len(),
+        })
+    }
+}
+
+/// Puts DE and RO as found at the front of the words.
+pub(crate) fn fill(sets: &mut [u64], found: &Analysis) {
+    let words = found.set_words();
+    sets[..words.len()].copy_from_slice(&words);
+}

@@ -1,0 +1,23 @@
+//! Document 01's demand 3, tested: the claim of its section 'Lists, cuts and the uncut run', over random lists of
+//! recoveries, runs, cuts and refused calls. The engine under test is handed in (`Engine`). `Watch` makes the calls,
+//! keeps the tally, and holds every answer, chip and state to the section's sentences and to the uncut run. `list`
+//! draws a list from a seed, `plans` its plan, `calls` the refused calls. `altered` has engines with one error each, on
+//! which the watch has to fail.
+
+pub mod altered;
+pub mod calls;
+pub mod engine;
+pub mod list;
+pub mod met;
+pub mod plans;
+pub mod record;
+pub mod rng;
+pub mod sentence;
+mod step;
+pub mod watch;
+
+pub use engine::{Engine, Lent, Ran, Reference};
+pub use list::{watch_list, watch_lists};
+pub use met::Met;
+pub use sentence::{Sentence, Violation};
+pub use watch::{Start, Watch};

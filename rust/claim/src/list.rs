@@ -1,0 +1,138 @@
+//! Random lists of calls, each drawn from a seed.
+
+use std::ops::Range;
+
+use reference::layout::STATE_BYTES;
+use reference::machine::SET_WORDS;
+
+use crate::calls::{spoiled, try_call};
+use crate::engine::Engine;
+use crate::met::Met;
+use crate::plans::plan;
+use crate::rng::Rng;
+use crate::sentence::{Sentence, Violation};
+use crate::watch::{Start, Watch};
+
+/// Watches the lists of these seeds up to the first that violates a sentence, and gives its seed.
+pub fn watch_lists(
+    engine: &impl Engine,
+    seeds: Range<u64>,
+    met: &mut Met,
+) -> Result<(), (u64, Violation)> {
+    for seed in seeds {
+        watch_list(engine, seed, met).map_err(|violation| (seed, violation))?;
+    }
+    Ok(())
+}
+
+/// Watches the list of this seed, and adds what it met.
+pub fn watch_list(engine: &impl Engine, seed: u64, met: &mut Met) -> Result<(), Violation> {
+    // An odd factor spreads neighbouring seeds, and takes none but 0 to 0.
+    let mut rng = Rng::new((seed + 1).wrapping_mul(0x9E37_79B9_7F4A_7C15));
+    let mut watch = Watch::new(engine, start(&mut rng));
+    watch.met = std::mem::take(met);
+    watch.met.count("lists");
+    let outcome = call_all(&mut watch, &mut rng);
+    *met = std::mem::take(&mut watch.met);
+    outcome
+}
+
+fn start(rng: &mut Rng) -> Start {
+    Start {
+        plan: plan(rng),
+        readings: readings(rng),
+        chip: match rng.below(4) {
+            0 => rng.below(60),
+            _ => rng.below(401),
+        },
+        state: spoiled(&[0; STATE_BYTES], rng),
+        sets: (0..SET_WORDS + rng.below(3)).map(|_| rng.word()).collect(),
+    }
+}
+
+fn call_all<E: Engine>(watch: &mut Watch<E>, rng: &mut Rng) -> Result<(), Violation> {
+    for _ in 0..5 + rng.below(18) {
+        match watch.is_good() {
+            true => call_when_good(watch, rng)?,
+            false => call_when_spoiled(watch, rng)?,
+        }
+    }
+    finish(watch, rng)
+}
+
+/// Readings, mostly small so that comparisons go both ways.
+fn readings(rng: &mut Rng) -> Vec<i32> {
+    let any = rng.word() as i32;
+    (0..rng.below(30))
+        .map(|_| match rng.below(8) {
+            0 => any,
+            1 => -1,
+            _ => rng.below(30) as i32 - 9,
+        })
+        .collect()
+}
+
+/// A budget: often few steps, so that cuts fall everywhere.
+fn budget(rng: &mut Rng) -> u64 {
+    let most = rng.pick(&[2, 12, 12, 40, 40, 120]);
+    rng.below(most) as u64
+}
+
+fn call_when_good<E: Engine>(watch: &mut Watch<E>, rng: &mut Rng) -> Result<(), Violation> {
+    match rng.below(12) {
+        0 => try_call(watch, rng)?,
+        1 => watch.recover()?,
+        2 => watch.cut(spoiled(watch.state(), rng)),
+        3..7 => run(watch, rng)?,
+        _ => {
+            run(watch, rng)?;
+            watch.cut(spoiled(watch.state(), rng));
+        }
+    }
+    Ok(())
+}
+
+fn call_when_spoiled<E: Engine>(watch: &mut Watch<E>, rng: &mut Rng) -> Result<(), Violation> {
+    match rng.below(10) {
+        0 => try_call(watch, rng)?,
+        1 => watch.cut_recovery(rng.below(STATE_BYTES + 1))?,
+        2 => watch.cut(spoiled(watch.state(), rng)),
+        _ => watch.recover()?,
+    }
+    Ok(())
+}
+
+fn run<E: Engine>(watch: &mut Watch<E>, rng: &mut Rng) -> Result<(), Violation> {
+    let untaken = watch.untaken();
+    let lent = match rng.below(3) {
+        0 => rng.below(untaken + 1),
+        _ => untaken,
+    };
+    let room = rng.pick(&[0, 1, 2, 200, 200, 200]);
+    watch.run(lent, room, budget(rng)).map(|_| ())
+}
+
+/// Where the uncut run is known to stop: runs with what is needed must reach that stop. They are given more budget than
+/// the steps that are left, so that one too many shows.
+fn finish<E: Engine>(watch: &mut Watch<E>, rng: &mut Rng) -> Result<(), Violation> {
+    if watch.steps_left().is_some() && !watch.is_good() {
+        watch.recover()?;
+    }
+    while let Some(left) = watch.steps_left() {
+        let (lent, room, budget) = match (rng.below(2), watch.untaken()) {
+            (0, untaken) => (untaken, left as usize, left + 1),
+            (_, untaken) => (untaken.min(1), 1, 1 + rng.below(80) as u64),
+        };
+        let ran = watch.run(lent, room, budget)?;
+        if ran.is_stopped() {
+            watch.met.count("stops reached");
+            break;
+        }
+        if ran.steps == 0 {
+            let text = format!("{ran:?} with {left} steps left");
+            let sentence = Sentence::StopReached;
+            return Err(Violation { sentence, text });
+        }
+    }
+    Ok(())
+}

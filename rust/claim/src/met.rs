@@ -1,0 +1,68 @@
+//! What the lists met, counted by name: a test that met too little of something has shown nothing.
+
+use std::collections::BTreeMap;
+use std::fmt;
+
+/// How much of what a thousand lists have to meet at least, or their test has shown too little.
+const FLOORS: [(&str, u64); 24] = [
+    ("whole saves", 1000),
+    ("torn saves", 400),
+    ("saves passed over", 1000),
+    ("cuts in erasing", 100),
+    ("cuts in a recovery", 250),
+    ("cuts", 2000),
+    ("recoveries", 2000),
+    ("runs", 2500),
+    ("bytes erased", 3000),
+    ("fresh outputs", 1000),
+    ("repeated outputs", 400),
+    ("stops reached", 250),
+    ("refused 1", 10),
+    ("refused 2", 10),
+    ("refused 3", 10),
+    ("refused 4", 10),
+    ("refused 5", 10),
+    ("refused 6", 10),
+    ("refused 7", 10),
+    ("refused 8", 10),
+    ("refused 9", 10),
+    ("refused 10", 10),
+    ("refused 11", 10),
+    ("refused 12", 10),
+];
+
+#[derive(Clone, Debug, Default)]
+pub struct Met(BTreeMap<&'static str, u64>);
+
+impl Met {
+    pub fn count(&mut self, name: &'static str) {
+        self.add(name, 1);
+    }
+
+    pub fn add(&mut self, name: &'static str, number: u64) {
+        *self.0.entry(name).or_default() += number;
+    }
+
+    pub fn get(&self, name: &str) -> u64 {
+        self.0.get(name).copied().unwrap_or(0)
+    }
+
+    /// Asserts that the lists met enough of everything.
+    pub fn assert_floors(&self) {
+        let lists = self.get("lists");
+        assert!(lists > 0, "no list");
+        for (name, floor) in FLOORS {
+            let met = self.get(name);
+            assert!(1000 * met >= floor * lists, "{met} {name} in {lists} lists");
+        }
+    }
+}
+
+impl fmt::Display for Met {
+    fn fmt(&self, text: &mut fmt::Formatter) -> fmt::Result {
+        for (name, number) in &self.0 {
+            writeln!(text, "{number:>9} {name}")?;
+        }
+        Ok(())
+    }
+}

@@ -1,0 +1,471 @@
+//! The watch over one list of calls. It makes the calls, keeps document 01's tally from the steps alone, and after each
+//! call checks every sentence of its section 'Lists, cuts and the uncut run'.
+//!
+//! To know what each step of a run was, the watch first takes the run's steps one by one on copies, each as a run with
+//! budget 1. These are runs of a list too, so the sentences are checked after each of them. Then it makes the call
+//! itself, which has to leave and answer the same.
+
+use std::collections::BTreeMap;
+
+use reference::journal::ERASED;
+use reference::layout::STATE_BYTES;
+use reference::machine::State;
+use reference::program::{Instruction, FIRST_INSTRUCTION};
+use reference::Set;
+
+use crate::engine::{Engine, Lent, Ran};
+use crate::met::Met;
+use crate::record::Record;
+use crate::sentence::{hold, shown, Sentence, Violation};
+use crate::step::Step;
+
+/// Up to how many commands the watch looks for the uncut run's stop.
+const LIMIT: usize = 400;
+
+/// What a list begins with: a plan and its readings, the length of an erased chip, any state, and any words for the
+/// sets, which the engine's analysis fills.
+pub struct Start {
+    pub plan: Vec<u8>,
+    pub readings: Vec<i32>,
+    pub chip: usize,
+    pub state: Vec<u8>,
+    pub sets: Vec<u64>,
+}
+
+/// Where a list stands.
+#[derive(Clone)]
+struct Point {
+    chip: Vec<u8>,
+    state: Vec<u8>,
+    tally: usize,
+    /// The tally just after the last final byte, or 0.
+    saved: usize,
+    highest: usize,
+    /// Steps and erased bytes since the last accepted recovery.
+    steps: u64,
+    erased: u64,
+    /// The outputs so far, repetitions aside.
+    so_far: Vec<i32>,
+}
+
+/// A list of calls to an engine, with one plan and one list of readings.
+pub struct Watch<'e, E> {
+    engine: &'e E,
+    plan: Vec<u8>,
+    sets: Vec<u64>,
+    readings: Vec<i32>,
+    /// The dead cells before each command, by the reference's analysis.
+    dead: BTreeMap<u32, Set>,
+    record: Record,
+    stop_after: Option<usize>,
+    point: Point,
+    /// Whether an accepted call left the state and no cut has since spoiled it.
+    good: bool,
+    pub met: Met,
+}
+
+impl<'e, E: Engine> Watch<'e, E> {
+    pub fn new(engine: &'e E, start: Start) -> Self {
+        assert_eq!(start.state.len(), STATE_BYTES);
+        let mut record = Record::new(&start.plan, &start.readings);
+        let mut sets = start.sets;
+        engine.analyse(&start.plan, &mut sets);
+        Watch {
+            engine,
+            sets,
+            dead: dead_sets(&start.plan),
+            plan: start.plan,
+            readings: start.readings,
+            stop_after: record.stop_within(LIMIT),
+            record,
+            point: Point {
+                chip: vec![ERASED; start.chip],
+                state: start.state,
+                tally: 0,
+                saved: 0,
+                highest: 0,
+                steps: 0,
+                erased: 0,
+                so_far: Vec::new(),
+            },
+            good: false,
+            met: Met::default(),
+        }
+    }
+
+    pub fn engine(&self) -> &'e E {
+        self.engine
+    }
+
+    pub fn plan(&self) -> &[u8] {
+        &self.plan
+    }
+
+    pub fn sets(&self) -> &[u64] {
+        &self.sets
+    }
+
+    pub fn chip(&self) -> &[u8] {
+        &self.point.chip
+    }
+
+    pub fn state(&self) -> &[u8] {
+        &self.point.state
+    }
+
+    pub fn is_good(&self) -> bool {
+        self.good
+    }
+
+    pub fn tally(&self) -> usize {
+        self.point.tally
+    }
+
+    /// The outputs so far, repetitions aside.
+    pub fn so_far(&self) -> &[i32] {
+        &self.point.so_far
+    }
+
+    /// How many readings there are "from the next untaken one on".
+    pub fn untaken(&mut self) -> usize {
+        self.readings.len() - self.record.at(self.point.tally).readings as usize
+    }
+
+    /// "n plus twice the chip's length", where the uncut run is known to stop.
+    fn most_steps(&self) -> Option<u64> {
+        let most = self.stop_after? + 2 * self.point.chip.len();
+        Some(most as u64)
+    }
+
+    /// How many steps may still follow the last recovery, where the uncut run is known to stop.
+    pub fn steps_left(&self) -> Option<u64> {
+        Some(self.most_steps()?.saturating_sub(self.point.steps))
+    }
+
+    /// A recovery that no cut ends.
+    pub fn recover(&mut self) -> Result<(), Violation> {
+        let recovered = self.recovered()?;
+        self.met.count("recoveries");
+        self.point.state = recovered;
+        self.point.tally = self.point.saved;
+        (self.point.steps, self.point.erased) = (0, 0);
+        self.good = true;
+        agree(&mut self.record, &self.dead, &self.point)
+    }
+
+    /// A cut in a recovery: of the state only the first bytes are the recovered ones.
+    pub fn cut_recovery(&mut self, overwritten: usize) -> Result<(), Violation> {
+        let mut state = self.recovered()?;
+        state[overwritten..].copy_from_slice(&self.point.state[overwritten..]);
+        self.met.count("cuts in a recovery");
+        self.cut(state);
+        Ok(())
+    }
+
+    /// The state that a recovery leaves, which must be accepted and leave the chip alone.
+    fn recovered(&self) -> Result<Vec<u8>, Violation> {
+        let mut left = self.point.clone();
+        let lent = lend(&self.plan, &self.sets, &mut left);
+        let answer = self.engine.recover(lent);
+        let before = &self.point.chip;
+        let refused = || format!("{answer:?}, chip {}", shown(before));
+        hold(answer.is_ok(), Sentence::RecoveryRefused, refused)?;
+        let altered = || format!("chip {} became {}", shown(before), shown(&left.chip));
+        hold(left.chip == *before, Sentence::ChipByRecovery, altered)?;
+        Ok(left.state)
+    }
+
+    /// A cut, after which the state holds what is given. A save is torn where some of its bytes are stored and not all;
+    /// erasing is cut where some torn bytes are erased and not all.
+    pub fn cut(&mut self, spoiled: Vec<u8>) {
+        self.met.count("cuts");
+        if let (true, Some(state)) = (self.good, State::from_bytes(&self.point.state)) {
+            if state.saving.is_some_and(|stored| stored > 0) {
+                self.met.count("torn saves");
+            }
+            if state.erase > 0 && self.point.erased > 0 {
+                self.met.count("cuts in erasing");
+            }
+        }
+        self.point.state = spoiled;
+        self.good = false;
+    }
+
+    /// A run, lent so many of the untaken readings and places for so many outputs.
+    pub fn run(&mut self, lent: usize, room: usize, budget: u64) -> Result<Ran, Violation> {
+        assert!(self.good, "a run on a spoiled state is in no list");
+        let next = self.readings.len() - self.untaken();
+        let readings = self.readings[next..next + lent].to_vec();
+        let before = self.point.clone();
+        let mut walked = vec![0; room];
+        let expected = self.walk(&readings, &mut walked, budget)?;
+
+        let mut left = Point {
+            chip: before.chip,
+            state: before.state,
+            ..self.point.clone()
+        };
+        let mut outputs = vec![0; room];
+        let lent = lend(&self.plan, &self.sets, &mut left);
+        let ran = accepted(self.engine.run(lent, &readings, &mut outputs, budget))?;
+        self.met.count("runs");
+        let (from, to) = (before.tally, left.tally);
+        check_traffic(&mut self.record, from, to, ran, &outputs)?;
+        agree(&mut self.record, &self.dead, &left)?;
+        let is_same = ran == expected && outputs == walked;
+        let left_same = left.chip == self.point.chip && left.state == self.point.state;
+        let both = || format!("budget {budget}: {ran:?}, by steps {expected:?}");
+        hold(is_same && left_same, Sentence::StepsOfRun, both)?;
+        Ok(ran)
+    }
+
+    /// Takes the steps of a run one by one, from where the list stands to where the run leaves it.
+    fn walk(
+        &mut self,
+        readings: &[i32],
+        outputs: &mut [i32],
+        budget: u64,
+    ) -> Result<Ran, Violation> {
+        let mut walked = Ran::default();
+        let mut before = state_of(&self.point)?;
+        loop {
+            let one = (budget - walked.steps).min(1);
+            let lent = lend(&self.plan, &self.sets, &mut self.point);
+            let room = &mut outputs[walked.written..];
+            let ran = accepted(self.engine.run(lent, &readings[walked.taken..], room, one))?;
+            let too_many = || format!("{} steps with budget {one}", ran.steps);
+            hold(ran.steps <= one, Sentence::StepsOfRun, too_many)?;
+            let after = state_of(&self.point)?;
+            self.note(&before, &after, ran, room)?;
+            walked = walked.then(ran);
+            if ran.steps == 0 {
+                return Ok(walked);
+            }
+            before = after;
+        }
+    }
+
+    /// Notes a run of no step or of one, and checks the sentences after it.
+    fn note(
+        &mut self,
+        before: &State,
+        after: &State,
+        ran: Ran,
+        outputs: &[i32],
+    ) -> Result<(), Violation> {
+        let from = self.point.tally;
+        if ran.steps == 1 {
+            self.step(Step::between(&self.plan, before, after));
+        }
+        let to = self.point.tally;
+        check_traffic(&mut self.record, from, to, ran, outputs)?;
+        self.give(before.outputs as usize, &outputs[..ran.written])?;
+        agree(&mut self.record, &self.dead, &self.point)?;
+        check_so_far(&mut self.record, &self.point)?;
+        let (steps, most) = (self.point.steps, self.most_steps());
+        let is_within = most.is_none_or(|most| steps <= most);
+        let text = || format!("{steps} steps, more than {most:?}");
+        hold(is_within, Sentence::StepBound, text)
+    }
+
+    fn step(&mut self, step: Step) {
+        self.met.count("steps");
+        let point = &mut self.point;
+        point.steps += 1;
+        point.tally += step.adds();
+        point.highest = point.highest.max(point.tally);
+        match step {
+            Step::StoredLast => {
+                point.saved = point.tally;
+                self.met.count("whole saves");
+            }
+            Step::PassedOver => self.met.count("saves passed over"),
+            Step::Erased => {
+                point.erased += 1;
+                self.met.count("bytes erased");
+            }
+            Step::Command | Step::Began | Step::Stored => {}
+        }
+    }
+
+    /// Adds the outputs whose numbers are next; those given before must be the same again.
+    fn give(&mut self, first: usize, values: &[i32]) -> Result<(), Violation> {
+        for (number, &value) in (first..).zip(values) {
+            let so_far = &mut self.point.so_far;
+            if number == so_far.len() {
+                so_far.push(value);
+                self.met.count("fresh outputs");
+            } else {
+                self.met.count("repeated outputs");
+            }
+            let text = || format!("output {number} is {value}, so far {so_far:?}");
+            hold(so_far.get(number) == Some(&value), Sentence::SoFar, text)?;
+        }
+        Ok(())
+    }
+}
+
+fn lend<'a>(plan: &'a [u8], sets: &'a [u64], point: &'a mut Point) -> Lent<'a> {
+    Lent {
+        plan,
+        sets,
+        chip: &mut point.chip,
+        state: &mut point.state,
+    }
+}
+
+/// The dead cells before each command, by its offset.
+fn dead_sets(plan: &[u8]) -> BTreeMap<u32, Set> {
+    let analysis = reference::analyse(plan).expect("the plan is accepted");
+    let mut offset = FIRST_INSTRUCTION;
+    let mut sets = BTreeMap::new();
+    for dead in analysis.dead {
+        let (_, length) = Instruction::decode(&plan[offset..]).expect("the plan is accepted");
+        sets.insert(offset as u32, dead);
+        offset += length;
+    }
+    sets
+}
+
+/// The state that stands in the bytes; a run would refuse bytes that are none.
+fn state_of(point: &Point) -> Result<State, Violation> {
+    State::from_bytes(&point.state).ok_or_else(|| Violation {
+        sentence: Sentence::RunRefused,
+        text: "the bytes left are no state".into(),
+    })
+}
+
+fn accepted(answer: Result<Ran, u32>) -> Result<Ran, Violation> {
+    answer.map_err(|number| Violation {
+        sentence: Sentence::RunRefused,
+        text: format!("refused {number}"),
+    })
+}
+
+/// "place, counts, kind of stop and every cell not dead before that place are the uncut run's after as many commands as
+/// the tally says".
+fn agree(record: &mut Record, dead: &BTreeMap<u32, Set>, point: &Point) -> Result<(), Violation> {
+    let state = state_of(point)?;
+    let frame = record.at(point.tally);
+    let place = || {
+        format!(
+            "tally {}: {}, not {}",
+            point.tally, state.place, frame.place
+        )
+    };
+    hold(state.place == frame.place, Sentence::Place, place)?;
+    let counts = [state.readings, state.outputs];
+    let uncut = [frame.readings, frame.outputs];
+    let text = || format!("tally {}: {counts:?}, not {uncut:?}", point.tally);
+    hold(counts == uncut, Sentence::Counts, text)?;
+    let text = || {
+        format!(
+            "tally {}: {:?}, not {:?}",
+            point.tally, state.stop, frame.stop
+        )
+    };
+    hold(state.stop == frame.stop, Sentence::Stop, text)?;
+    let dead = &dead[&frame.place];
+    for (cell, &value) in frame.cells.iter().enumerate() {
+        let is_dead = dead.contains(&(cell as u8));
+        let here = state.cells[cell];
+        let text = || format!("tally {}: cell {cell} is {here}, not {value}", point.tally);
+        hold(is_dead || here == value, Sentence::Cells, text)?;
+    }
+    Ok(())
+}
+
+/// "takes the readings and writes the outputs, numbers and order included, that the uncut run has between the tallies
+/// before and after it"; the number of the first is the count before, which `agree` compared.
+fn check_traffic(
+    record: &mut Record,
+    from: usize,
+    to: usize,
+    ran: Ran,
+    outputs: &[i32],
+) -> Result<(), Violation> {
+    let taken = record.taken(from, to);
+    let text = || format!("tally {from} to {to}: {} taken, not {taken}", ran.taken);
+    hold(ran.taken == taken, Sentence::Readings, text)?;
+    let given = record.given(from, to);
+    let written = outputs.get(..ran.written);
+    let text = || format!("tally {from} to {to}: {written:?}, not {given:?}");
+    hold(written == Some(given), Sentence::Outputs, text)
+}
+
+fn check_so_far(record: &mut Record, point: &Point) -> Result<(), Violation> {
+    let is_stopped = record.at(point.tally).stop.is_some();
+    let uncut = match is_stopped {
+        true => record.all_given(),
+        false => record.given(0, point.highest),
+    };
+    let text = || format!("{:?}, not {uncut:?}", point.so_far);
+    hold(point.so_far == uncut, Sentence::SoFar, text)
+}
+
+#[cfg(test)]
+mod tests {
+    use super::*;
+    use crate::engine::Reference;
+    use crate::plans::SMALL;
+    use reference::machine::SET_WORDS;
+
+    /// A plan before its first call, with document 01's readings.
+    fn before_all(plan: &[u8]) -> Watch<'static, Reference> {
+        let start = Start {
+            plan: plan.to_vec(),
+            readings: vec![5, 7, -2],
+            chip: 0,
+            state: vec![0xFF; STATE_BYTES],
+            sets: vec![0; SET_WORDS],
+        };
+        Watch::new(&Reference, start)
+    }
+
+    fn violated(answer: Result<(), Violation>) -> Option<Sentence> {
+        answer.err().map(|violation| violation.sentence)
+    }
+
+    #[test]
+    fn outputs_so_far_have_no_gap_and_repeat_the_same() {
+        let mut watch = before_all(SMALL);
+        assert_eq!(violated(watch.give(0, &[5, 12])), None);
+        assert_eq!(violated(watch.give(1, &[12, 10])), None);
+        assert_eq!(watch.so_far(), [5, 12, 10]);
+        assert_eq!(violated(watch.give(1, &[10])), Some(Sentence::SoFar));
+        assert_eq!(violated(watch.give(4, &[0])), Some(Sentence::SoFar));
+    }
+
+    #[test]
+    fn outputs_so_far_go_to_the_highest_tally() {
+        let mut watch = before_all(SMALL);
+        let mut checked = |highest, so_far: &[i32]| {
+            watch.point.highest = highest;
+            watch.point.so_far = so_far.to_vec();
+            violated(check_so_far(&mut watch.record, &watch.point))
+        };
+        // The first EMIT is the fourth command, and six later comes the next.
+        assert_eq!(checked(3, &[]), None);
+        assert_eq!(checked(3, &[5]), Some(Sentence::SoFar));
+        assert_eq!(checked(4, &[5]), None);
+        assert_eq!(checked(9, &[5]), None);
+        assert_eq!(checked(10, &[5]), Some(Sentence::SoFar));
+        assert_eq!(checked(10, &[5, 12]), None);
+    }
+
+    #[test]
+    fn after_a_stop_all_outputs_are_so_far() {
+        // EMIT 0, EMIT 0, END.
+        let mut watch = before_all(&[0x00, 0x08, 0x00, 0x08, 0x00, 0x01]);
+        watch.point.tally = 3;
+        watch.point.highest = 1;
+        watch.point.so_far = vec![0];
+        let answer = check_so_far(&mut watch.record, &watch.point);
+        assert_eq!(violated(answer), Some(Sentence::SoFar));
+        watch.point.so_far = vec![0, 0];
+        assert_eq!(
+            violated(check_so_far(&mut watch.record, &watch.point)),
+            None
+        );
+    }
+}

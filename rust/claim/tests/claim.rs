@@ -1,0 +1,105 @@
+//! Document 01's demand 3 on the Rust version, over random lists of calls; and that the same lists find each of the
+//! altered engines.
+
+use std::env;
+use std::ops::Range;
+
+use claim::altered::{Alter, Altered};
+use claim::{watch_list, watch_lists, Engine, Met, Reference, Sentence};
+
+/// The lists for the Rust version, unless `CLAIM_LISTS` says another number.
+const LISTS: u64 = 6_000;
+
+/// The lists within which an altered engine must be caught.
+const FEW: Range<u64> = 0..1_000;
+
+/// The sentences of document 01's section. What the harness checks beside them is no catch.
+const OF_THE_CLAIM: [Sentence; 11] = [
+    Sentence::Place,
+    Sentence::Counts,
+    Sentence::Stop,
+    Sentence::Cells,
+    Sentence::Readings,
+    Sentence::Outputs,
+    Sentence::SoFar,
+    Sentence::RecoveryRefused,
+    Sentence::RunRefused,
+    Sentence::StepBound,
+    Sentence::StopReached,
+];
+
+/// The first of few seeds whose list the altered engine violates in one of these sentences.
+fn caught(alter: Alter, by: &[Sentence]) {
+    let engine = Altered {
+        engine: Reference,
+        alter,
+    };
+    let violation = |seed| watch_list(&engine, seed, &mut Met::default()).err();
+    let (seed, violation) = FEW
+        .filter_map(|seed| Some((seed, violation(seed)?)))
+        .find(|(_, violation)| by.contains(&violation.sentence))
+        .unwrap_or_else(|| panic!("{alter:?} is not caught by the seeds {FEW:?}"));
+    println!("{alter:?}, seed {seed}: {violation}");
+}
+
+#[track_caller]
+fn keeps_the_claim(engine: &impl Engine, seeds: Range<u64>) {
+    let mut met = Met::default();
+    if let Err((seed, violation)) = watch_lists(engine, seeds, &mut met) {
+        panic!("seed {seed}: {violation}");
+    }
+    print!("{met}");
+    met.assert_floors();
+}
+
+#[test]
+fn the_rust_version_keeps_the_claim() {
+    let lists = env::var("CLAIM_LISTS").map_or(LISTS, |number| number.parse().unwrap());
+    keeps_the_claim(&Reference, 0..lists);
+}
+
+#[test]
+fn the_wrapper_alone_keeps_the_claim() {
+    let engine = Altered {
+        engine: Reference,
+        alter: Alter::Nothing,
+    };
+    keeps_the_claim(&engine, FEW);
+}
+
+#[test]
+fn the_errors_to_rule_out_are_caught_by_the_claim() {
+    for alter in [
+        Alter::DeadStaysDead,
+        Alter::KeptByPassedOver,
+        Alter::SurePut,
+        Alter::EraseUpward,
+        Alter::WholeBefore5A,
+        Alter::CountedBeforeGiven,
+        Alter::OnlySaysSo,
+    ] {
+        caught(alter, &OF_THE_CLAIM);
+    }
+}
+
+/// `SoFar` is not among them: where the outputs so far are wrong, those of some run are, and are found first.
+#[test]
+fn each_sentence_is_seen_to_fail() {
+    for (alter, sentence) in [
+        (Alter::OnlySaysSo, Sentence::Place),
+        (Alter::CountsAhead, Sentence::Counts),
+        (Alter::OtherStop, Sentence::Stop),
+        (Alter::DeadStaysDead, Sentence::Cells),
+        (Alter::TakesOneMore, Sentence::Readings),
+        (Alter::CountedBeforeGiven, Sentence::Outputs),
+        (Alter::EraseUpward, Sentence::RecoveryRefused),
+        (Alter::RefusesSaving, Sentence::RunRefused),
+        (Alter::ErasesForever, Sentence::StepBound),
+        (Alter::SpentAtOnce, Sentence::StopReached),
+        (Alter::RefusedClears, Sentence::RefusedCall),
+        (Alter::RecoveryErases, Sentence::ChipByRecovery),
+        (Alter::InventsAStep, Sentence::StepsOfRun),
+    ] {
+        caught(alter, &[sentence]);
+    }
+}

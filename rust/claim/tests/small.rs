@@ -1,0 +1,109 @@
+//! Lists that are written out: document 01's small plan on a chip that holds its first two or three saves, with the
+//! tally counted by hand, and with a cut after each step and a second cut after each step that follows.
+
+use claim::plans::SMALL;
+use claim::{Reference, Start, Watch};
+use reference::layout::STATE_BYTES;
+use reference::machine::SET_WORDS;
+
+const READINGS: [i32; 3] = [5, 7, -2];
+
+/// Room for every output.
+const ROOM: usize = 100;
+
+fn small(chip: usize) -> Watch<'static, Reference> {
+    let start = Start {
+        plan: SMALL.to_vec(),
+        readings: READINGS.to_vec(),
+        chip,
+        state: vec![0xA5; STATE_BYTES],
+        sets: vec![0; SET_WORDS],
+    };
+    Watch::new(&Reference, start)
+}
+
+/// Runs on the good state, lent all untaken readings, and gives how the run ended and its steps.
+#[track_caller]
+fn run(watch: &mut Watch<Reference>, budget: u64) -> (u32, u64) {
+    let untaken = watch.untaken();
+    let ran = watch.run(untaken, ROOM, budget);
+    let ran = ran.unwrap_or_else(|violation| panic!("{violation}"));
+    (ran.ended, ran.steps)
+}
+
+#[track_caller]
+fn recover(watch: &mut Watch<Reference>) {
+    watch
+        .recover()
+        .unwrap_or_else(|violation| panic!("{violation}"));
+}
+
+#[test]
+fn the_tally_when_cut_after_33_bytes() {
+    let mut watch = small(60);
+    recover(&mut watch);
+    // SET, READ, ADD, EMIT, EXCLUDE, and the CHECKPOINT that begins to save.
+    run(&mut watch, 6);
+    assert_eq!(watch.tally(), 5);
+    run(&mut watch, 19);
+    assert_eq!(watch.tally(), 5);
+    // The final byte.
+    run(&mut watch, 1);
+    assert_eq!(watch.tally(), 6);
+    // JUMP, and READ to EXCLUDE again.
+    run(&mut watch, 5);
+    assert_eq!(watch.tally(), 11);
+    // The CHECKPOINT and 13 bytes more.
+    run(&mut watch, 14);
+    assert_eq!(
+        (watch.tally(), watch.chip()[32], watch.chip()[33]),
+        (11, 0x00, 0xFF)
+    );
+    watch.cut(vec![0x00; STATE_BYTES]);
+    recover(&mut watch);
+    assert_eq!((watch.tally(), watch.untaken()), (6, 2));
+    // The 13 bytes are erased, then the second round comes again and the third.
+    assert_eq!(run(&mut watch, 13), (4, 13));
+    assert_eq!((watch.tally(), watch.chip()[20]), (6, 0xFF));
+    assert_eq!(run(&mut watch, 1000), (5, 2 * 26 + 1));
+    assert_eq!((watch.tally(), watch.so_far()), (19, &[5, 12, 10][..]));
+    assert_eq!(watch.met.get("repeated outputs"), 1);
+}
+
+#[test]
+fn a_save_passed_over_counts_at_once() {
+    let mut watch = small(19);
+    recover(&mut watch);
+    run(&mut watch, 6);
+    assert_eq!((watch.tally(), watch.met.get("saves passed over")), (6, 1));
+    watch.cut(vec![0xFF; STATE_BYTES]);
+    recover(&mut watch);
+    assert_eq!((watch.tally(), watch.met.get("cuts")), (0, 1));
+}
+
+/// SET, then for each reading four commands, a CHECKPOINT with its 20 bytes, and JUMP.
+const STEPS: u64 = 1 + 3 * (4 + 1 + 20 + 1);
+
+#[test]
+fn every_cut_and_every_second_cut() {
+    let mut torn = 0;
+    let mut in_erasing = 0;
+    for first in 0..=STEPS {
+        for second in 0..=30 {
+            let mut watch = small(60);
+            for budget in [first, second] {
+                recover(&mut watch);
+                run(&mut watch, budget);
+                watch.cut(vec![0x00; STATE_BYTES]);
+            }
+            recover(&mut watch);
+            assert_eq!(run(&mut watch, 1000).0, 5);
+            assert_eq!(watch.so_far(), [5, 12, 10]);
+            torn += watch.met.get("torn saves");
+            in_erasing += watch.met.get("cuts in erasing");
+        }
+    }
+    // The first cut tears each save after 1 to 19 bytes. Of such a number b, b - 1 second cuts fall in erasing.
+    assert!(torn >= 31 * 3 * 19, "{torn}");
+    assert_eq!(in_erasing, 3 * (0..19).sum::<u64>());
+}
