@@ -5,10 +5,11 @@
  * - A slice is a pointer and then its length in bytes. A null pointer with length 0 is an empty
  *   slice; no other pointer may be null.
  * - What is lent to one call, the numbers that it fills included, must not overlap.
- * - A buffer of words holds little-endian 64-bit numbers and need not be aligned. A rest too short
- *   for a word is left unused.
+ * - A buffer of words holds little-endian 64-bit numbers; readings and outputs are little-endian
+ *   signed 32-bit numbers. None need be aligned. A rest too short for a number is left unused.
  * - The result is 0 where the call is accepted, else the number of the refusal. A refused call
  *   alters nothing that was lent.
+ * - Nothing is kept from call to call but in what is lent.
  *
  *   1  the plan is empty or over 2,048 bytes
  *   2  unknown command byte
@@ -19,8 +20,14 @@
  *   7  no command, or the last is neither END nor JUMP
  *   8  a jump's target isn't a command's offset
  *   9  a buffer of words is too short
+ *   10 the state has another length than PITSKELO_STATE_SIZE, or, for a run, is not sound
+ *   11 the chip is over 65,536 bytes
+ *   12 the chip is damaged: what follows its whole saves is neither erased nor begins a save
  *
- * Several may hold at once. 1 is tried first, then 2 to 5 command by command, then 6, 7, 8 and 9.
+ * Several may hold at once. 1 is tried first, then 2 to 5 command by command, then 6 to 12 in this
+ * order.
+ *
+ * docs/C-API.md says what a host does with these calls, and in which order.
  */
 #ifndef PITSKELO_H
 #define PITSKELO_H
@@ -31,6 +38,32 @@
 #ifdef __cplusplus
 extern "C" {
 #endif
+
+/* Sizes in bytes. */
+#define PITSKELO_PLAN_MAX 2048   /* a plan has 1 to so many */
+#define PITSKELO_DEAD_SIZE 16384 /* dead has at least so many */
+#define PITSKELO_SETS_SIZE 4096  /* sets has at least so many */
+#define PITSKELO_STATE_SIZE 1312 /* the state has just so many */
+#define PITSKELO_CHIP_MAX 65536  /* a chip has 0 to so many */
+
+/*
+ * Where the state has the numbers that a host may want to know: little-endian, unsigned, 32 bits.
+ * A host reads them and alters no byte of the state.
+ */
+#define PITSKELO_STATE_READINGS 1288 /* readings taken: the number of the next one */
+#define PITSKELO_STATE_OUTPUTS 1292  /* outputs given: the number of the next one */
+#define PITSKELO_STATE_WRITE 1300    /* the address of the chip's next byte to store */
+#define PITSKELO_STATE_ERASE 1304    /* the torn bytes to erase, from that address on */
+
+/* How a run ended. */
+enum pitskelo_ended {
+    PITSKELO_STOPPED_ENDED = 1,      /* the plan stopped: at END */
+    PITSKELO_STOPPED_DIVISOR = 2,    /* it stopped: a DIV by 0 */
+    PITSKELO_STOPPED_COUNT_FULL = 3, /* it stopped: a READ or EMIT at count 4,294,967,295 */
+    PITSKELO_BUDGET_SPENT = 4,       /* all steps of the budget are done */
+    PITSKELO_NO_READING = 5,         /* a READ is due and no reading is left */
+    PITSKELO_OUTPUTS_FULL = 6        /* an EMIT is due and the output buffer is full */
+};
 
 /*
  * Checks a plan and answers its numbers of cells (1 to 256), commands (1 to 512) and, among these,
@@ -54,6 +87,46 @@ uint32_t pitskelo_check(const uint8_t *plan, size_t plan_len,
 uint32_t pitskelo_analyse(const uint8_t *plan, size_t plan_len,
                           uint8_t *dead, size_t dead_len,
                           uint8_t *sets, size_t sets_len);
+
+/*
+ * Reads the chip and fills the state from its whole saves: each cell's last saved value, or 0, and
+ * place and counts of the last save, or the plan's beginning. It comes before the first run, on an
+ * erased chip (all FF) too, and again after each power cut. Result: 0, or 1 to 12.
+ *
+ * sets are those that pitskelo_analyse found for this plan. The state may hold anything before the
+ * call, which tests its length alone. The chip stays as it is: the bytes of a torn save are erased
+ * by the first steps of the runs that follow.
+ */
+uint32_t pitskelo_recover(const uint8_t *plan, size_t plan_len,
+                          const uint8_t *sets, size_t sets_len,
+                          const uint8_t *chip, size_t chip_len,
+                          uint8_t *state, size_t state_len);
+
+/*
+ * Runs the plan on from where the state stands, for at most budget steps, and alters the state, the
+ * chip and the outputs. Result: 0, or 1 to 11.
+ *
+ * A step erases one torn byte, or stores one byte of a save, or executes one command. Before each
+ * step the run ends where one of these holds, tried in this order: the plan has stopped; the budget
+ * is spent; a READ is due and no reading is left; an EMIT is due and the output buffer is full.
+ * ended says which (enum pitskelo_ended). steps, taken and given are the numbers of this call's
+ * steps, readings taken and outputs written.
+ *
+ * readings begins with the next reading not yet taken: its number is the state's count of readings.
+ * outputs gets this call's outputs from its start on, and its later bytes remain as they are. The
+ * first output's number is the state's count of outputs before the call; each next one is one more.
+ *
+ * An output must be handed on before bytes of later steps reach the chip, and bytes must reach it
+ * in the order of the steps. So lend a copy of the chip, and see docs/C-API.md for what comes then.
+ */
+uint32_t pitskelo_run(const uint8_t *plan, size_t plan_len,
+                      const uint8_t *sets, size_t sets_len,
+                      uint8_t *chip, size_t chip_len,
+                      uint8_t *state, size_t state_len,
+                      const uint8_t *readings, size_t readings_len,
+                      uint8_t *outputs, size_t outputs_len,
+                      uint64_t budget,
+                      uint32_t *ended, uint64_t *steps, uint64_t *taken, uint64_t *given);
 
 #ifdef __cplusplus
 }

@@ -1,16 +1,28 @@
 // The C interface of the plan engine: `extern "C"` entries on numbers and byte slices, declared in
 // include/pitskelo.h. A slice is a pointer and then a length. The result is 0 where a call is
 // accepted, else the refusal's number of document 01; a refused call alters nothing that was lent.
+mod run;
 mod words;
 
 use analysis::Analysed;
+use layout::load_state;
+use layout::load_words;
+use layout::store_state;
 use program::Checked;
+use recovery::Recovered;
+use recovery::recover_value;
+use run::kind;
+use run::refusal;
+use run::run_all;
 use words::store_words;
 ghost use mathlib.Core.List.{[], _∷_};
-ghost use Prim.Native.Nat.{_≤_};
+ghost use Prim.Native.Nat.{_/_, _≤_, min};
 ghost use lib.ListN.{length};
 ghost use Rattle.pitskelo.specs.Calls.{CheckCall, AnalyseCall};
+ghost use mathlib.Core.Path.{_≡_};
+ghost use Rattle.recovery.specs.Recover as recovering;
 ghost use Rattle.pitskelo.specs.Storing.{BothStored};
+ghost use Rattle.pitskelo.specs.Runs.{oddState, runCallOf, RecoverCall};
 
 // Checks a plan and gives its numbers of cells, commands and EXCLUDEs.
 #[no_mangle]
@@ -75,4 +87,109 @@ pub extern "C" fn pitskelo_analyse(plan: &[u8], dead: &mut [u8], sets: &mut [u8]
         ),
         Analysed::Refused(number) => number,
     }
+}
+
+// The refusal of a call that lends a state of another length: the plan's, else 9, else 10.
+fn odd_state(plan: &[u8], sets: &[u8]) -> u32
+    ensures { λ r. ⌜ r ≡ oddState (now (plan .entry)) (now (sets .entry)) ⌝ }
+{
+    match program::check(plan) {
+        Checked::Refused(number) => number,
+        Checked::Program {
+            cells: _,
+            instructions: _,
+            excludes: _,
+        } => {
+            if sets.len() / 8 < 512 {
+                return 9;
+            }
+            10
+        }
+    }
+}
+
+// How many words a buffer of sets holds, of those that are wanted.
+fn word_count(sets: &[u8]) -> usize
+    ensures { λ r. ⌜ r ≡ min (length (now (sets .entry)) / 8) 512 ⌝ }
+{
+    let n = sets.len() / 8;
+    if 512 < n {
+        return 512;
+    }
+    n
+}
+
+fn restored(answer: Recovered) -> u32
+    ensures { λ r. ⌜ r ≡ recovering.answerOf answer .number ⌝ }
+{
+    match answer {
+        Recovered::Restored => 0,
+        Recovered::Refused(number) => number,
+    }
+}
+
+// Restores the state that the chip holds; the lent state's bytes are overwritten.
+#[no_mangle]
+pub extern "C" fn pitskelo_recover(plan: &[u8], sets: &[u8], chip: &[u8], state: &mut [u8]) -> u32
+    ensures { λ r. ⌜ RecoverCall (now (plan .entry)) (now (sets .entry)) (now (chip .entry)) (now (state .entry)) (now (state .exit)) r ⌝ }
+{
+    if state.len() != 1312 {
+        return odd_state(plan, sets);
+    }
+    let n = word_count(sets);
+    let words = load_words(sets, n);
+    let recovery = recover_value(load_state(state), plan, &words[..n], chip);
+    let answer = recovery.answer;
+    let number = restored(answer);
+    if number != 0 {
+        return number;
+    }
+    let after = recovery.state;
+    store_state(state, after);
+    0
+}
+
+// Runs the plan from the lent state for at most `budget` steps.
+#[no_mangle]
+pub extern "C" fn pitskelo_run(
+    plan: &[u8],
+    sets: &[u8],
+    chip: &mut [u8],
+    state: &mut [u8],
+    readings: &[u8],
+    outputs: &mut [u8],
+    budget: u64,
+    ended: &mut u32,
+    steps: &mut u64,
+    taken: &mut u64,
+    given: &mut u64,
+) -> u32
+    ensures { λ r. ⌜ record { result = r; chip = now (chip .exit); state = now (state .exit); outputs = now (outputs .exit); numbers = now (ended .exit) ∷ now (steps .exit) ∷ now (taken .exit) ∷ now (given .exit) ∷ [] } ≡ runCallOf (record { plan = now (plan .entry); sets = now (sets .entry); chip = now (chip .entry); state = now (state .entry); readings = now (readings .entry); outputs = now (outputs .entry); budget = budget; numbers = now (ended .entry) ∷ now (steps .entry) ∷ now (taken .entry) ∷ now (given .entry) ∷ [] }) ⌝ }
+{
+    if state.len() != 1312 {
+        return odd_state(plan, sets);
+    }
+    let n = word_count(sets);
+    let words = load_words(sets, n);
+    let ran = run_all(
+        load_state(state),
+        plan,
+        &words[..n],
+        chip,
+        readings,
+        outputs,
+        budget,
+    );
+    let end = ran.ended;
+    let number = refusal(end);
+    if number != 0 {
+        return number;
+    }
+    let left = ran.state;
+    store_state(state, left);
+    *ended = kind(end);
+    *steps = ran.steps;
+    *taken = ran.taken as u64;
+    *given = ran.written as u64;
+    0
 }

@@ -1,4 +1,4 @@
-//! The plans in `examples/`, whose sets the reference's tests state.
+//! The plans in `examples/`. The reference's tests state the sets of all but MEAN.
 
 /// Document 01's small plan.
 pub const SMALL: &[u8] = include_bytes!("../../../examples/small.plan");
@@ -6,6 +6,7 @@ pub const SMALL: &[u8] = include_bytes!("../../../examples/small.plan");
 const CELL: &str = include_str!("../../../examples/cell.hex");
 const SIEVE: &str = include_str!("../../../examples/sieve.hex");
 const CONTOUR: &str = include_str!("../../../examples/contour.hex");
+const MEAN: &str = include_str!("../../../examples/mean.hex");
 
 /// Document 001's three programs, with their names.
 pub fn programs() -> [(&'static str, Vec<u8>); 3] {
@@ -14,6 +15,11 @@ pub fn programs() -> [(&'static str, Vec<u8>); 3] {
         ("SIEVE", plan(SIEVE)),
         ("CONTOUR", plan(CONTOUR)),
     ]
+}
+
+/// The mean of the last eight readings: 24 readings and as many outputs, with a save after each.
+pub fn mean() -> Vec<u8> {
+    plan(MEAN)
 }
 
 /// The bytes of a plan written as text: hexadecimal, and comment from `#` to the line's end.

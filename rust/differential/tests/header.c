@@ -1,6 +1,6 @@
 /*
- * Checks and analyses the plan on standard input, then what is refused, and prints what the calls
- * give.
+ * Checks, analyses, recovers and runs the plan on standard input, then what is refused, and prints
+ * what the calls give.
  */
 
 /* First, so that the header is seen to need nothing before it. */
@@ -14,26 +14,36 @@ static uint32_t (*const check)(const uint8_t *, size_t,
                                uint32_t *, uint32_t *, uint32_t *) = pitskelo_check;
 static uint32_t (*const analyse)(const uint8_t *, size_t,
                                  uint8_t *, size_t, uint8_t *, size_t) = pitskelo_analyse;
+static uint32_t (*const recover)(const uint8_t *, size_t, const uint8_t *, size_t,
+                                 const uint8_t *, size_t, uint8_t *, size_t) = pitskelo_recover;
+static uint32_t (*const run)(const uint8_t *, size_t, const uint8_t *, size_t,
+                             uint8_t *, size_t, uint8_t *, size_t,
+                             const uint8_t *, size_t, uint8_t *, size_t, uint64_t,
+                             uint32_t *, uint64_t *, uint64_t *, uint64_t *) = pitskelo_run;
 
-static void print_check(const char *name, const uint8_t *plan, size_t plan_len)
+/* What the calls of recover and run share. */
+static uint8_t plan[PITSKELO_PLAN_MAX], sets[PITSKELO_SETS_SIZE], state[PITSKELO_STATE_SIZE];
+static size_t plan_len;
+
+static void print_check(const char *name, const uint8_t *bytes, size_t len)
 {
     uint32_t cells = 1001, commands = 1002, excludes = 1003;
-    uint32_t result = check(plan, plan_len, &cells, &commands, &excludes);
+    uint32_t result = check(bytes, len, &cells, &commands, &excludes);
     printf("check %s: %lu, %lu %lu %lu\n", name, (unsigned long)result, (unsigned long)cells,
            (unsigned long)commands, (unsigned long)excludes);
 }
 
 /* Prints the first byte of each of the first sets. Where a length is 0, lends a null pointer. */
-static void print_analyse(const char *name, const uint8_t *plan, size_t plan_len,
+static void print_analyse(const char *name, const uint8_t *bytes, size_t len,
                           size_t dead_len, size_t sets_len)
 {
-    static uint8_t dead[16384], sets[4096];
+    static uint8_t dead[PITSKELO_DEAD_SIZE];
     uint32_t result;
     size_t set;
 
     memset(dead, 0xA5, sizeof dead);
     memset(sets, 0x5A, sizeof sets);
-    result = analyse(plan, plan_len, dead_len > 0 ? dead : NULL, dead_len,
+    result = analyse(bytes, len, dead_len > 0 ? dead : NULL, dead_len,
                      sets_len > 0 ? sets : NULL, sets_len);
     printf("analyse %s: %lu,", name, (unsigned long)result);
     for (set = 0; set < 8; set++)
@@ -44,17 +54,110 @@ static void print_analyse(const char *name, const uint8_t *plan, size_t plan_len
     printf("\n");
 }
 
+static unsigned long number_at(const uint8_t *bytes)
+{
+    return bytes[0] | (unsigned long)bytes[1] << 8 | (unsigned long)bytes[2] << 16 |
+           (unsigned long)bytes[3] << 24;
+}
+
+/* Whether the bytes still hold what they were filled with. */
+static int filled(const uint8_t *bytes, size_t len)
+{
+    while (len > 0 && bytes[len - 1] == 0xA5)
+        len--;
+    return len == 0;
+}
+
+/* Prints the result and unless the state is as it was, cell 0 and the numbers from the place on. */
+static void print_recover(const char *name, size_t sets_len, const uint8_t *chip, size_t chip_len,
+                          size_t state_len)
+{
+    uint32_t result;
+    size_t at;
+
+    memset(state, 0xA5, sizeof state);
+    result = recover(plan, plan_len, sets, sets_len, chip, chip_len, state, state_len);
+    printf("recover %s: %lu", name, (unsigned long)result);
+    if (!filled(state, sizeof state)) {
+        printf(", %lu,", number_at(state));
+        for (at = 1280; at < sizeof state; at += 4)
+            printf(" %lu", number_at(state + at));
+    }
+    printf("\n");
+}
+
+/* Prints the result, the four numbers, and the outputs up to those that are as they were. */
+static void print_run(const char *name, uint8_t *chip, size_t chip_len, const uint8_t *readings,
+                      size_t readings_len, size_t outputs_len, uint64_t budget)
+{
+    uint8_t outputs[16];
+    uint32_t ended = 1001;
+    uint64_t steps = 1002, taken = 1003, given = 1004;
+    uint32_t result;
+    size_t at;
+
+    memset(outputs, 0xA5, sizeof outputs);
+    result = run(plan, plan_len, sets, sizeof sets, chip, chip_len, state, sizeof state,
+                 readings, readings_len, outputs_len > 0 ? outputs : NULL, outputs_len, budget,
+                 &ended, &steps, &taken, &given);
+    printf("run %s: %lu, %lu %lu %lu %lu,", name, (unsigned long)result, (unsigned long)ended,
+           (unsigned long)steps, (unsigned long)taken, (unsigned long)given);
+    for (at = 0; !filled(outputs + at, sizeof outputs - at); at += 4)
+        printf(" %lu", number_at(outputs + at));
+    printf("\n");
+}
+
+/* Runs a chip of 60 bytes full, and recovers from it, whole and cut. */
+static void recover_and_run(void)
+{
+    static const uint8_t readings[] = {5, 0, 0, 0, 7, 0, 0, 0, 0xFE, 0xFF, 0xFF, 0xFF, 9};
+    uint8_t chip[60];
+    size_t at;
+
+    memset(chip, 0xFF, sizeof chip);
+    print_recover("erased", sizeof sets, chip, sizeof chip, sizeof state);
+    print_run("no room", chip, sizeof chip, readings, sizeof readings, 0, 1000);
+    print_run("some steps", chip, sizeof chip, readings + 4, sizeof readings - 4, 7, 24);
+    print_run("no readings", chip, sizeof chip, NULL, 0, 16, 1000);
+    print_run("the rest", chip, sizeof chip, readings + 4, sizeof readings - 4, 16, 1000);
+    print_recover("whole", sizeof sets, chip, sizeof chip, sizeof state);
+    for (at = 0; at < 20; at++)
+        printf(at == 0 ? "%02X" : " %02X", chip[at]);
+    printf("\n");
+    memset(chip + 33, 0xFF, sizeof chip - 33);
+    print_recover("cut", sizeof sets, chip, sizeof chip, sizeof state);
+}
+
+/* What is refused leaves everything as it was. */
+static void refuse(void)
+{
+    static uint8_t long_chip[PITSKELO_CHIP_MAX + 1];
+    uint8_t damaged[] = {0x00, 0xFF};
+
+    memset(long_chip, 0xFF, sizeof long_chip);
+    print_recover("short sets", sizeof sets - 1, NULL, 0, sizeof state);
+    print_recover("short state", sizeof sets, NULL, 0, sizeof state - 1);
+    print_recover("long chip", sizeof sets, long_chip, sizeof long_chip, sizeof state);
+    print_recover("damaged", sizeof sets, damaged, sizeof damaged, sizeof state);
+    print_run("no state", damaged, sizeof damaged, NULL, 0, 16, 1);
+    print_recover("null", sizeof sets, NULL, 0, sizeof state);
+    print_run("long chip", long_chip, sizeof long_chip, NULL, 0, 16, 1);
+    state[PITSKELO_STATE_WRITE] = 1;
+    print_run("past the end", NULL, 0, NULL, 0, 16, 1);
+}
+
 int main(void)
 {
-    static uint8_t plan[4096];
     static const uint8_t unknown[] = {0x00, 0x7F};
-    size_t plan_len = fread(plan, 1, sizeof plan, stdin);
 
+    plan_len = fread(plan, 1, sizeof plan, stdin);
     print_check("input", plan, plan_len);
     print_check("unknown", unknown, sizeof unknown);
     print_check("null", NULL, 0);
-    print_analyse("input", plan, plan_len, 16384, 4096);
-    print_analyse("unknown", unknown, sizeof unknown, 16384, 4096);
+    print_analyse("unknown", unknown, sizeof unknown, PITSKELO_DEAD_SIZE, PITSKELO_SETS_SIZE);
     print_analyse("null", plan, plan_len, 0, 0);
+    print_analyse("input", plan, plan_len, PITSKELO_DEAD_SIZE, PITSKELO_SETS_SIZE);
+    recover_and_run();
+    refuse();
     return 0;
 }

@@ -1,0 +1,59 @@
+-- What is loaded from the bytes that are lent, and from recovery's outcome to what `pitskelo_recover` leaves.
+-- Assumes nothing.
+use Prim.Native.Nat.{ℕ, _/_, min}
+use mathlib.Core.Path.{_≡_, sym, _∙_, ap, subst}
+use mathlib.Core.List.{List}
+use borrow.Author.Tests.{eq-eqb, ne-eqb}
+use lib.ListN.{length, take}
+use Rattle.machine.specs.declared.State.{State}
+use Rattle.machine.specs.State.{Env, envOf, Machine, machineOf}
+use Rattle.recovery.specs.declared.Recovered.{Recovered}
+use Rattle.recovery.specs.declared.Recovered.the-variants.{Restored}
+use Rattle.recovery.specs.Recover.{Recovers, outcome, answerOf}
+use Rattle.layout.specs.Numbers.{numbersFrom}
+use Rattle.layout.specs.Layout.{regsIn, cellsIn, marksIn, machineIn, bytesOfState}
+use Rattle.pitskelo.specs.Runs.{setsIn, oddState, RecoverCall}
+use Rattle.pitskelo.proofs.OddStates.{odd-refused}
+
+-- the words are those of the buffer
+pub words-in : (ws words : List ℕ) {n : ℕ} → n ≡ min (length ws / 8) 512 → take n words ≡ numbersFrom 8 n ws 0 → take n words ≡ setsIn ws
+unfolding setsIn
+words-in ws words e h = h ∙ ap (λ (n : ℕ). numbersFrom 8 n ws 0) e
+
+-- a state as it was loaded
+abbrev pub Loaded : List ℕ → State → Type 0
+Loaded b s = (s .regs ≡ regsIn b) × (s .cells ≡ cellsIn b) × (s .marks ≡ marksIn b)
+
+-- with a chip it is the machine of the bytes
+pub machine-loaded : (b : List ℕ) (s : State) (chip : List ℕ) → Loaded b s → machineOf (s .regs) (s .cells) (s .marks) chip ≡ machineIn b chip
+machine-loaded b s chip l = λ i. machineOf (l .0 i) (l .1 i) (l .2 i) chip
+
+-- what holds of the words and the machine holds of those that they are equal to
+pub carried : (P : Env → Machine → Type 0) (p : List ℕ) {vs ws : List ℕ} {m n : Machine} → vs ≡ ws → m ≡ n → P (envOf p vs) m → P (envOf p ws) n
+carried P p {ws} {m} e f h = subst (λ (n : Machine). P (envOf p ws) n) f (subst (λ (us : List ℕ). P (envOf p us) m) e h)
+
+-- a state of another length
+pub odd-recovery : (p ws chip state : List ℕ) {k : ℕ} → ¬ (length state ≡ 1312) → k ≡ oddState p ws → RecoverCall p ws chip state state k
+odd-recovery p ws chip state {k} odd h =
+    record {
+      outcome = outcome Restored (machineIn state chip);
+      recovers = λ e. absurd (odd e);
+      number = rw (ne-eqb (length state) 1312 odd) h;
+      left = rw (ne-eqb k 0 (λ z. odd-refused p ws (sym h ∙ z)));
+    }
+
+module _ (p ws chip state words : List ℕ) {n : ℕ} {s : State} (size : length state ≡ 1312) (few : n ≡ min (length ws / 8) 512)
+    (loaded : take n words ≡ numbersFrom 8 n ws 0) (from : Loaded state s) {a : Recovered} {m : Machine}
+    (r : Recovers (envOf p (take n words)) (machineOf (s .regs) (s .cells) (s .marks) chip) (outcome a m)) where
+  -- the outcome is that of what the bytes hold
+  recovered : Recovers (envOf p (setsIn ws)) (machineIn state chip) (outcome a m)
+  recovered = carried (λ (e : Env) (m₀ : Machine). Recovers e m₀ (outcome a m)) p (words-in ws words few loaded) (machine-loaded state s chip from) r
+
+  -- a refusal leaves the state
+  pub refused-recovery : {k : ℕ} → k ≡ answerOf a .number → ¬ (k ≡ 0) → RecoverCall p ws chip state state k
+  refused-recovery {k} h some =
+      record { outcome = outcome a m; recovers = λ e. recovered; number = rw (eq-eqb (length state) 1312 size) h; left = rw (ne-eqb k 0 some) }
+
+  -- else the outcome's is stored
+  pub done-recovery : {k : ℕ} → k ≡ answerOf a .number → k ≡ 0 → {b : List ℕ} → b ≡ bytesOfState m → RecoverCall p ws chip state b 0
+  done-recovery h z q = record { outcome = outcome a m; recovers = λ e. recovered; number = rw (eq-eqb (length state) 1312 size) (sym z ∙ h); left = q }

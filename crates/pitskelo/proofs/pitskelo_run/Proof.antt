@@ -1,0 +1,95 @@
+-- `pitskelo_run` meets its contract: a state of another length is refused at its place in the order; else what the run of what the bytes hold leaves is stored.
+-- Assumes nothing.
+use native.Mathlib.Omega.{arith}
+use Rattle.pitskelo.proofs.Running.{cut}
+use Rattle.pitskelo.proofs.RunCalls.{odd-run, refused-run, accepted-run}
+use borrow.Author.Needs.{needs}
+use Rattle.pitskelo.proofs.pitskelo_run.Statement.{statement}
+use Rattle.pitskelo.proofs.pitskelo_run.Tie as tie
+
+odd-state-requires : tie.Need-odd-state-requires
+odd-state-requires c κs = search needs
+
+returns : tie.Need-returns
+returns c = odd-run _ (c .before .if1 .taken) (c .odd-state .ensures)
+
+word-count-requires : tie.Need-word-count-requires
+word-count-requires c κs = search needs
+
+load-words-requires : tie.Need-load-words-requires
+load-words-requires c κs = search needs
+
+load-state-requires : tie.Need-load-state-requires
+load-state-requires c κs = search needs
+
+array-share-prefix-words : tie.Need-array-share-prefix-words
+array-share-prefix-words c = search needs
+
+slice-aggregate-run-all : tie.Need-slice-aggregate-run-all
+slice-aggregate-run-all c = cut _ 512 _ (omega (arith, c .before .before .before .before .word-count .ensures)) (c .before .before .before .load-words .ensures .0)
+
+run-all-requires : tie.Need-run-all-requires
+run-all-requires c κs = search needs
+
+refusal-requires : tie.Need-refusal-requires
+refusal-requires c κs = search needs
+
+same-length : tie.Need-same-length
+same-length c = search needs
+
+same-length-2 : tie.Need-same-length-2
+same-length-2 c = search needs
+
+same-length-3 : tie.Need-same-length-3
+same-length-3 c = search needs
+
+returns-2 : tie.Need-returns-2
+returns-2 c =
+    let r = c .before .before .before .before .before .before in
+    refused-run _ _ (r .before .before .before .before .before .before .before .before .if1 .left) (r .before .before .before .before .before .before .before .word-count .ensures) (r .before .before .before .before .before .before .load-words .ensures .1) (r .before .before .before .before .load-state .ensures)
+    (r .run-all .ensures) (c .before .refusal .ensures) (c .if2 .taken)
+
+store-state-requires : tie.Need-store-state-requires
+store-state-requires c κs = search needs
+
+kind-requires : tie.Need-kind-requires
+kind-requires c κs = search needs
+
+same-length-4 : tie.Need-same-length-4
+same-length-4 c = search needs
+
+same-length-5 : tie.Need-same-length-5
+same-length-5 c = search needs
+
+same-length-6 : tie.Need-same-length-6
+same-length-6 c = search needs
+
+returns-3 : tie.Need-returns-3
+returns-3 c =
+    let r = c .before .before .before .before .before .before .before .before .before .before .before .before in
+    accepted-run _ _ (r .before .before .before .before .before .before .before .before .if1 .left) (r .before .before .before .before .before .before .before .word-count .ensures) (r .before .before .before .before .before .before .load-words .ensures .1) (r .before .before .before .before .load-state .ensures)
+    (r .run-all .ensures) (c .before .before .before .before .before .before .before .refusal .ensures) (c .before .before .before .before .before .before .if2 .left) (c .before .before .before .store-state .ensures) (c .kind .ensures)
+
+pub pitskelo-run-spec : {M : Type 1} → statement M
+pitskelo-run-spec =
+    tie.close
+    (tie.spec
+    odd-state-requires
+    returns
+    word-count-requires
+    load-words-requires
+    load-state-requires
+    array-share-prefix-words
+    slice-aggregate-run-all
+    run-all-requires
+    refusal-requires
+    same-length
+    same-length-2
+    same-length-3
+    returns-2
+    store-state-requires
+    kind-requires
+    same-length-4
+    same-length-5
+    same-length-6
+    returns-3)

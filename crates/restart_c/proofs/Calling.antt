@@ -1,0 +1,89 @@
+-- What calls of the C interface leave: a refused one everything, an accepted one what the definitions of recovery and of a run say.
+-- Assumes nothing.
+use Prim.Native.Nat.{ℕ, suc, _/_}
+use mathlib.Core.Path.{_≡_, refl, sym, _∙_, ap}
+use mathlib.Core.List.{List, _++_}
+use native.Mathlib.Omega.{arith}
+use lib.Dec.{eqb, ltb}
+use lib.ListN.{length, getD}
+use borrow.Author.Tests.{eqb-true, eqb-false, ne-eqb}
+use Rattle.program.specs.Check.{checkOf}
+use Rattle.program.proofs.Tests.{bool-cases}
+use Rattle.journal.specs.declared.Scanned.{Scanned}
+use Rattle.journal.specs.declared.Scanned.the-variants.{Damaged, Found}
+use Rattle.machine.specs.State.{Env, Machine}
+use Rattle.machine.specs.Run.{numberOf, answerOf}
+use Rattle.machine.specs.declared.Ended.{Ended}
+use Rattle.machine.specs.declared.Ended.the-variants as ended
+use Rattle.recovery.specs.Recover as recovery
+use Rattle.recovery.specs.Recover.{recoverOf, Recovers, refuses, reads}
+use Rattle.recovery.specs.declared.Recovered.the-variants.{Restored}
+use Rattle.layout.specs.Layout.{stateSize}
+use Rattle.pitskelo.specs.Runs.{oddState, RunLent, ranOn, runNumber, runDone, runRefused, runCallOf, RecoverCall}
+use Rattle.restart.specs.History.{Accepted}
+
+-- ---- recovery
+
+-- a refused call leaves the state's bytes
+pub recovery-kept : {p ws chip state left : List ℕ} {result : ℕ} → RecoverCall p ws chip state left result → ¬ (result ≡ 0) → left ≡ state
+recovery-kept {result = result} x z = x .left ∙ rw (ne-eqb result 0 z)
+
+-- a state of another length is refused
+odd-some : (p ws : List ℕ) → ¬ (0 ≡ oddState p ws)
+unfolding oddState
+odd-some p ws h =
+    bool-cases (eqb (numberOf (checkOf p)) 0)
+    (λ b. bool-cases (ltb (length ws / 8) 512) (λ c. let z = rw (b, c) at h in omega arith) (λ c. let z = rw (b, c) at h in omega arith))
+    (λ b. let z = rw b at h in eqb-false (numberOf (checkOf p)) 0 b (sym z))
+
+-- what is read and has the number 0 is restored
+read-restored : (e : Env) (a : Scanned) (values : List ℕ) (m : Machine) → 0 ≡ recovery.answerOf (recoverOf e a values m .answer) .number
+    → recoverOf e a values m .answer ≡ Restored
+unfolding recoverOf
+read-restored e Damaged values m h = absurd (omega arith)
+read-restored e (Found end torn last) values m h = refl
+
+-- so is every outcome with it
+outcome-restored : (e : Env) (m : Machine) (r : recovery.Outcome) → Recovers e m r → 0 ≡ recovery.answerOf (r .answer) .number → r .answer ≡ Restored
+outcome-restored e m r (refuses n h l k) z =
+    let y : 0 ≡ n = z ∙ ap (λ (o : recovery.Outcome). recovery.answerOf (o .answer) .number) k in
+    absurd (omega arith)
+outcome-restored e m r (reads h a values s k) z = rw k (read-restored e a values m (rw k at z))
+
+module _ {p ws chip state left : List ℕ} (x : RecoverCall p ws chip state left 0) where
+  -- an accepted call was lent a state of the right length
+  pub accepted-size : length state ≡ stateSize
+  accepted-size =
+      bool-cases (eqb (length state) stateSize)
+      (λ b. eqb-true _ _ b)
+      (λ b. absurd (odd-some p ws (x .number ∙ rw b)))
+
+  -- and restored it
+  pub accepted-restored : x .outcome .answer ≡ Restored
+  accepted-restored = outcome-restored _ _ (x .outcome) (x .recovers accepted-size) (x .number ∙ rw accepted-size)
+
+-- ---- a run
+
+-- a refused call leaves what it was lent
+pub run-kept : (l : RunLent) → ¬ (runCallOf l .result ≡ 0) → runCallOf l ≡ runRefused l (runNumber l)
+unfolding runCallOf
+run-kept l z =
+    bool-cases (eqb (runNumber l) 0)
+    (λ b. absurd (z (rw b)))
+    (λ b. rw b)
+
+-- an accepted one leaves the machine's outcome
+pub run-done : (l : RunLent) → runCallOf l .result ≡ 0 → runCallOf l ≡ runDone l (ranOn l)
+unfolding runCallOf
+run-done l z =
+    bool-cases (eqb (runNumber l) 0)
+    (λ b. rw b)
+    (λ b. absurd (eqb-false (runNumber l) 0 b (rw b at z)))
+
+-- its numbers stand behind the kind of ending
+pub number-at : (x : Ended) → Accepted x → (l : List ℕ) (i : ℕ) → getD (answerOf x .values ++ l) (suc i) 0 ≡ getD l i 0
+number-at (ended.Refused n) a l i = absurd a
+number-at (ended.Stopped k) a l i = refl
+number-at ended.Spent a l i = refl
+number-at ended.NoReading a l i = refl
+number-at ended.BufferFull a l i = refl

@@ -1,0 +1,177 @@
+//! A board: a host, and the files that stand for its plan, its readings and its chip.
+
+use std::fs;
+use std::os::unix::process::ExitStatusExt;
+use std::path::{Path, PathBuf};
+use std::process::{Child, Command, Output, Stdio};
+use std::thread::sleep;
+use std::time::Duration;
+
+use reference::journal::{self, Chip, ERASED};
+
+const SIGKILL: i32 = 9;
+
+pub struct Board {
+    host: PathBuf,
+    folder: PathBuf,
+    plan: Vec<u8>,
+    chip_len: usize,
+}
+
+/// When the host is killed.
+#[derive(Clone, Copy)]
+pub enum Cut {
+    Never,
+    /// From outside, so long after its start.
+    After(Duration),
+    /// From outside, as soon as so many bytes of the chip are seen to differ from what they were at its start.
+    Changed(usize),
+    /// By itself, before the chip byte or flush of this number (a host of `building::cut_host`).
+    Before(usize),
+}
+
+/// What came of one start of the host.
+pub struct Life {
+    pub outputs: Vec<(u32, i32)>,
+    pub end: End,
+}
+
+/// How it ended, and what it wrote to standard error.
+#[derive(Debug, PartialEq, Eq)]
+pub enum End {
+    Killed,
+    Done(String),
+    Failed(String),
+}
+
+impl Board {
+    /// A board with an erased chip. Its files lie in the folder.
+    pub fn new(
+        host: &Path,
+        folder: &Path,
+        plan: &[u8],
+        readings: &[i32],
+        chip_len: usize,
+    ) -> Board {
+        let board = Board {
+            host: host.to_path_buf(),
+            folder: folder.to_path_buf(),
+            plan: plan.to_vec(),
+            chip_len,
+        };
+        board.write("plan", plan);
+        board.set_readings(readings);
+        board.erase();
+        board
+    }
+
+    pub fn set_readings(&self, readings: &[i32]) {
+        let bytes: Vec<u8> = readings.iter().flat_map(|r| r.to_le_bytes()).collect();
+        self.write("readings", &bytes);
+    }
+
+    pub fn erase(&self) {
+        self.set_chip(&vec![ERASED; self.chip_len]);
+    }
+
+    pub fn set_chip(&self, chip: &[u8]) {
+        self.write("chip", chip);
+    }
+
+    pub fn chip(&self) -> Vec<u8> {
+        fs::read(self.folder.join("chip")).expect("the chip can be read")
+    }
+
+    /// What the chip holds, as the reference reads it, or its refusal.
+    pub fn contents(&self) -> Result<Chip, u32> {
+        journal::read(&self.plan, &self.chip())
+    }
+
+    /// Starts the host once, with a pause of so many microseconds after each chip byte.
+    pub fn start(&self, pause: u32, cut: Cut) -> Life {
+        let mut command = self.command(&self.host, &[]);
+        command.arg(pause.to_string());
+        if let Cut::Before(event) = cut {
+            command.env("PITSKELO_CUT", event.to_string());
+        }
+        let before = self.chip();
+        let mut child = command.spawn().expect("the host can be started");
+        match cut {
+            Cut::Never | Cut::Before(_) => {}
+            Cut::After(delay) => {
+                sleep(delay);
+                kill(&mut child);
+            }
+            Cut::Changed(bytes) => {
+                self.watch(&mut child, &before, bytes);
+                kill(&mut child);
+            }
+        }
+        let output = child.wait_with_output().expect("the host ends");
+        Life::of(&output)
+    }
+
+    /// Starts the host under another program, such as valgrind with these arguments.
+    pub fn start_under(&self, program: &str, arguments: &[&str]) -> Life {
+        let host = self.host.to_str().expect("a path of text");
+        let mut command = self.command(Path::new(program), &[arguments, &[host]].concat());
+        Life::of(&command.output().expect("the program can be started"))
+    }
+
+    /// Waits until so many bytes of the chip have changed, or the host has ended.
+    fn watch(&self, child: &mut Child, before: &[u8], bytes: usize) {
+        let changed = || {
+            let now = self.chip();
+            before.iter().zip(&now).filter(|(b, n)| b != n).count()
+        };
+        while changed() < bytes && matches!(child.try_wait(), Ok(None)) {
+            sleep(Duration::from_micros(200));
+        }
+    }
+
+    fn command(&self, program: &Path, first: &[&str]) -> Command {
+        let mut command = Command::new(program);
+        command.args(first);
+        command.args(["plan", "chip", "readings"]);
+        command.current_dir(&self.folder);
+        command.stdin(Stdio::null());
+        command.stdout(Stdio::piped());
+        command.stderr(Stdio::piped());
+        command
+    }
+
+    fn write(&self, name: &str, bytes: &[u8]) {
+        fs::write(self.folder.join(name), bytes).expect("the board's files can be written");
+    }
+}
+
+/// Kills the host, which may have ended by itself.
+fn kill(child: &mut Child) {
+    if let Err(error) = child.kill() {
+        assert!(matches!(child.try_wait(), Ok(Some(_))), "{error}");
+    }
+}
+
+impl Life {
+    fn of(output: &Output) -> Life {
+        let text = String::from_utf8(output.stdout.clone()).expect("outputs are text");
+        let told = String::from_utf8_lossy(&output.stderr).into_owned();
+        assert!(text.is_empty() || text.ends_with('\n'), "a part of a line");
+        Life {
+            outputs: text.lines().map(numbered).collect(),
+            end: match (output.status.signal(), output.status.success()) {
+                (Some(SIGKILL), _) => End::Killed,
+                (None, true) => End::Done(told),
+                _ => End::Failed(format!("{}: {told}", output.status)),
+            },
+        }
+    }
+}
+
+/// A line `number value`.
+fn numbered(line: &str) -> (u32, i32) {
+    let parsed = line
+        .split_once(' ')
+        .and_then(|(number, value)| Some((number.parse().ok()?, value.parse().ok()?)));
+    parsed.unwrap_or_else(|| panic!("no numbered output: {line:?}"))
+}
