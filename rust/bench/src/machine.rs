@@ -1,7 +1,9 @@
 //! A run in plain Rust, as one would write it who wants it fast but simple, in place: the bytes of the plan are
-//! executed as they stand, and a save's bytes are made once. And the plans that are timed.
+//! executed as they stand, words, readings and outputs are bytes too, and a save's bytes are made once.
 
-use differential::Ran;
+use std::array::from_fn;
+
+use differential::probe::Ran;
 use reference::journal::{ERASED, MARK, MARK_END, MAX_CHIP, RECORD};
 use reference::program::{
     ADD, CHECKPOINT, COPY, DIV, EMIT, END, EXCLUDE, FIRST_INSTRUCTION, GET, JUMP, LENGTHS, LESS,
@@ -11,106 +13,137 @@ use reference::refusal::{BUFFER_TOO_SHORT, CHIP_LENGTH};
 
 use crate::baseline::{check, SET_WORDS};
 
-const INCLUDE: u8 = 0;
-const PENDING: u8 = 1;
-const KEPT: u8 = 2;
-const DEAD: u8 = 3;
+pub(crate) const INCLUDE: u8 = 0;
+pub(crate) const PENDING: u8 = 1;
+pub(crate) const KEPT: u8 = 2;
+pub(crate) const DEAD: u8 = 3;
 
-/// The state, from the first one on; `save` holds the bytes of the save at work and `stored` how many of
-/// them stand on the chip.
-struct Machine<'a> {
-    plan: &'a [u8],
-    cell_count: usize,
-    cells: [i32; 256],
-    marks: [u8; 256],
-    numbers: [u8; MAX_BYTES],
-    place: usize,
-    exclude: usize,
-    readings: u32,
-    outputs: u32,
-    stop: u32,
-    write: usize,
+/// What stands at each offset of a plan: the command byte, 0 where none begins, and the number of an EXCLUDE among them.
+pub(crate) struct Map {
+    pub(crate) opcodes: [u8; MAX_BYTES],
+    pub(crate) numbers: [u8; MAX_BYTES],
+}
+
+impl Map {
+    pub(crate) fn of(plan: &[u8]) -> Map {
+        let mut map = Map {
+            opcodes: [0; MAX_BYTES],
+            numbers: [0; MAX_BYTES],
+        };
+        let mut number = 0;
+        let mut offset = FIRST_INSTRUCTION;
+        while offset < plan.len() {
+            let opcode = plan[offset];
+            map.opcodes[offset] = opcode;
+            if opcode == EXCLUDE {
+                map.numbers[offset] = number;
+                number += 1;
+            }
+            offset += LENGTHS[usize::from(opcode)];
+        }
+        map
+    }
+}
+
+/// The state. While it saves, `stored` says how many bytes of the save stand on the chip; `save` holds its bytes, made
+/// when the first of them is needed.
+pub(crate) struct Machine<'a> {
+    pub(crate) plan: &'a [u8],
+    pub(crate) map: Map,
+    pub(crate) cell_count: usize,
+    pub(crate) cells: [i32; 256],
+    pub(crate) marks: [u8; 256],
+    pub(crate) place: usize,
+    pub(crate) exclude: usize,
+    pub(crate) readings: u32,
+    pub(crate) outputs: u32,
+    pub(crate) stop: u32,
+    pub(crate) write: usize,
+    pub(crate) erase: usize,
+    pub(crate) saving: bool,
+    pub(crate) stored: usize,
     save: Vec<u8>,
-    stored: usize,
+}
+
+/// What a run is lent beside the plan and the state.
+pub struct Lent<'a> {
+    pub sets: &'a [[u8; 8]],
+    pub chip: &'a mut [u8],
+    pub readings: &'a [[u8; 4]],
+    pub outputs: &'a mut [[u8; 4]],
+    pub budget: u64,
 }
 
 /// Runs a plan from the first state, or gives the refusal of it, of the words or of the chip.
-pub fn run(
-    plan: &[u8],
-    sets: &[u64],
-    chip: &mut [u8],
-    readings: &[i32],
-    outputs: &mut [i32],
-    budget: u64,
-) -> Result<Ran, u32> {
+pub fn run(plan: &[u8], lent: &mut Lent) -> Result<Ran, u32> {
     let cell_count = check(plan)?.cells as usize;
-    if sets.len() < SET_WORDS {
+    if lent.sets.len() < SET_WORDS {
         return Err(BUFFER_TOO_SHORT);
     }
-    if chip.len() > MAX_CHIP {
+    if lent.chip.len() > MAX_CHIP {
         return Err(CHIP_LENGTH);
     }
-    let mut machine = Machine {
-        plan,
-        cell_count,
-        cells: [0; 256],
-        marks: [INCLUDE; 256],
-        numbers: exclude_numbers(plan),
-        place: 1,
-        exclude: 0,
-        readings: 0,
-        outputs: 0,
-        stop: 0,
-        write: 0,
-        save: Vec::new(),
-        stored: 0,
-    };
-    let mut ran = Ran {
-        result: 0,
-        ended: 0,
-        steps: 0,
-        taken: 0,
-        written: 0,
-    };
-    loop {
-        if machine.stop != 0 {
-            ran.ended = machine.stop;
-            return Ok(ran);
-        }
-        if ran.steps == budget {
-            ran.ended = 4;
-            return Ok(ran);
-        }
-        if machine.stored < machine.save.len() {
-            machine.store(chip);
-        } else {
-            let opcode = plan[machine.place];
-            if opcode == READ && ran.taken == readings.len() as u64 {
-                ran.ended = 5;
-                return Ok(ran);
-            }
-            if opcode == EMIT && ran.written == outputs.len() as u64 {
-                ran.ended = 6;
-                return Ok(ran);
-            }
-            machine.execute(opcode, sets, chip.len(), readings, outputs, &mut ran);
-        }
-        ran.steps += 1;
-    }
+    Ok(Machine::first(plan, cell_count).run(lent))
 }
 
-fn exclude_numbers(plan: &[u8]) -> [u8; MAX_BYTES] {
-    let mut numbers = [0; MAX_BYTES];
-    let mut number = 0;
-    let mut offset = FIRST_INSTRUCTION;
-    while offset < plan.len() {
-        if plan[offset] == EXCLUDE {
-            numbers[offset] = number;
-            number += 1;
+impl<'a> Machine<'a> {
+    pub(crate) fn first(plan: &'a [u8], cell_count: usize) -> Machine<'a> {
+        Machine {
+            plan,
+            map: Map::of(plan),
+            cell_count,
+            cells: [0; 256],
+            marks: [INCLUDE; 256],
+            place: 1,
+            exclude: 0,
+            readings: 0,
+            outputs: 0,
+            stop: 0,
+            write: 0,
+            erase: 0,
+            saving: false,
+            stored: 0,
+            save: Vec::new(),
         }
-        offset += LENGTHS[usize::from(plan[offset])];
     }
-    numbers
+
+    pub(crate) fn run(&mut self, lent: &mut Lent) -> Ran {
+        let mut ran = Ran {
+            result: 0,
+            ended: 0,
+            steps: 0,
+            taken: 0,
+            written: 0,
+        };
+        loop {
+            if self.stop != 0 {
+                ran.ended = self.stop;
+                return ran;
+            }
+            if ran.steps == lent.budget {
+                ran.ended = 4;
+                return ran;
+            }
+            if self.erase > 0 {
+                self.erase -= 1;
+                lent.chip[self.write + self.erase] = ERASED;
+            } else if self.saving {
+                self.store(lent.chip);
+            } else {
+                let opcode = self.plan[self.place];
+                if opcode == READ && ran.taken == lent.readings.len() as u64 {
+                    ran.ended = 5;
+                    return ran;
+                }
+                if opcode == EMIT && ran.written == lent.outputs.len() as u64 {
+                    ran.ended = 6;
+                    return ran;
+                }
+                self.execute(opcode, lent, &mut ran);
+            }
+            ran.steps += 1;
+        }
+    }
 }
 
 impl Machine<'_> {
@@ -140,21 +173,15 @@ impl Machine<'_> {
         self.place += length;
     }
 
-    fn execute(
-        &mut self,
-        opcode: u8,
-        sets: &[u64],
-        chip: usize,
-        readings: &[i32],
-        outputs: &mut [i32],
-        ran: &mut Ran,
-    ) {
+    /// The v of a SET.
+    fn constant(&self) -> i32 {
+        let at = self.place + 2;
+        i32::from_le_bytes(self.plan[at..at + 4].try_into().expect("four bytes"))
+    }
+
+    fn execute(&mut self, opcode: u8, lent: &mut Lent, ran: &mut Ran) {
         match opcode {
-            SET => {
-                let at = self.place + 2;
-                let bytes = self.plan[at..at + 4].try_into().expect("four bytes");
-                self.put(1, i32::from_le_bytes(bytes), 6);
-            }
+            SET => self.put(1, self.constant(), 6),
             COPY => self.put(1, self.cell(2), 3),
             ADD => self.put(1, self.cell(2).wrapping_add(self.cell(3)), 4),
             SUB => self.put(1, self.cell(2).wrapping_sub(self.cell(3)), 4),
@@ -164,39 +191,43 @@ impl Machine<'_> {
             },
             READ if self.readings == u32::MAX => self.stop = 3,
             READ => {
-                self.put(1, readings[ran.taken as usize], 2);
+                let reading = lent.readings[ran.taken as usize];
+                self.put(1, i32::from_le_bytes(reading), 2);
                 self.readings += 1;
                 ran.taken += 1;
             }
             EMIT if self.outputs == u32::MAX => self.stop = 3,
             EMIT => {
-                outputs[ran.written as usize] = self.cell(1);
+                lent.outputs[ran.written as usize] = self.cell(1).to_le_bytes();
                 self.outputs += 1;
                 ran.written += 1;
                 self.place += 2;
             }
             JUMP => self.place = self.target(1),
-            LESS => match self.cell(1) < self.cell(2) {
-                true => self.place = self.target(3),
-                false => self.place += 5,
-            },
+            LESS if self.cell(1) < self.cell(2) => self.place = self.target(3),
+            LESS => self.place += 5,
             GET => self.put(1, self.cells[self.table_cell(2)], 5),
             PUT => {
-                let cell = self.table_cell(1);
-                self.cells[cell] = self.cell(4);
+                self.cells[self.table_cell(1)] = self.cell(4);
                 self.place += 5;
             }
-            EXCLUDE => self.exclude(sets),
-            CHECKPOINT => self.checkpoint(chip),
+            EXCLUDE => self.exclude(lent.sets),
+            CHECKPOINT => self.checkpoint(lent.chip.len()),
             END => self.stop = 1,
             _ => unreachable!("the plan is checked"),
         }
     }
 
-    fn exclude(&mut self, sets: &[u64]) {
-        let at = 8 * usize::from(self.numbers[self.place]);
+    /// DE and RO of the EXCLUDE at this offset.
+    pub(crate) fn sets_of(&self, sets: &[[u8; 8]], exclude: usize) -> [u64; 8] {
+        let at = 8 * usize::from(self.map.numbers[exclude]);
+        from_fn(|word| u64::from_le_bytes(sets[at + word]))
+    }
+
+    fn exclude(&mut self, sets: &[[u8; 8]]) {
+        let words = self.sets_of(sets, self.place);
         for cell in 0..self.cell_count {
-            let is_in = |first: usize| sets[at + first + cell / 64] >> (cell % 64) & 1 == 1;
+            let is_in = |first: usize| words[first + cell / 64] >> (cell % 64) & 1 == 1;
             self.marks[cell] = match (is_in(0), is_in(4), self.marks[cell]) {
                 (true, _, _) => DEAD,
                 (false, true, KEPT) => KEPT,
@@ -208,16 +239,21 @@ impl Machine<'_> {
         self.place += 1;
     }
 
+    /// The length of the save that would begin now.
+    pub(crate) fn save_len(&self) -> usize {
+        let stored = |mark: &&u8| **mark <= PENDING;
+        6 * self.marks[..self.cell_count].iter().filter(stored).count() + 14
+    }
+
     fn checkpoint(&mut self, chip: usize) {
-        let stored = |cell: &usize| self.marks[*cell] <= PENDING;
-        let size = 6 * (0..self.cell_count).filter(stored).count() + 14;
-        if self.write + size > chip {
-            self.place += 1;
-            return;
+        match self.write + self.save_len() <= chip {
+            true => (self.saving, self.stored) = (true, 0),
+            false => self.place += 1,
         }
-        self.save.clear();
-        self.stored = 0;
-        for cell in (0..self.cell_count).filter(stored) {
+    }
+
+    fn make_save(&mut self) {
+        for cell in (0..self.cell_count).filter(|cell| self.marks[*cell] <= PENDING) {
             self.save.extend([RECORD, cell as u8]);
             self.save.extend(self.cells[cell].to_le_bytes());
         }
@@ -230,6 +266,9 @@ impl Machine<'_> {
     }
 
     fn store(&mut self, chip: &mut [u8]) {
+        if self.save.is_empty() {
+            self.make_save();
+        }
         chip[self.write] = self.save[self.stored];
         self.write += 1;
         self.stored += 1;
@@ -237,65 +276,9 @@ impl Machine<'_> {
             for mark in self.marks.iter_mut().filter(|mark| **mark == PENDING) {
                 *mark = KEPT;
             }
+            self.saving = false;
+            self.save.clear();
             self.place += 1;
         }
     }
-}
-
-/// A plan to time, with its sets left empty: the length of the chip and the budget.
-pub struct Timed {
-    pub name: &'static str,
-    pub plan: Vec<u8>,
-    pub chip: usize,
-    pub budget: u64,
-}
-
-/// An arithmetic loop, a loop over tables, and saves until the chip is full.
-pub fn timed() -> Vec<Timed> {
-    let set = |cell: u8, value: i32| [&[SET, cell][..], &value.to_le_bytes()].concat();
-    let arithmetic = [
-        vec![7],
-        set(1, 1),
-        set(2, 1000),
-        set(3, 7),
-        // Offset 19.
-        vec![ADD, 0, 0, 1],
-        vec![SUB, 4, 2, 0],
-        vec![DIV, 5, 4, 3],
-        vec![COPY, 6, 5],
-        vec![ADD, 7, 6, 5],
-        vec![LESS, 0, 2, 19, 0],
-        vec![SUB, 0, 0, 0],
-        vec![JUMP, 19, 0],
-    ];
-    let tables = [
-        vec![63],
-        set(60, 1),
-        set(61, 17),
-        // Offset 13.
-        vec![GET, 62, 0, 50, 59],
-        vec![ADD, 62, 62, 61],
-        vec![PUT, 0, 50, 59, 62],
-        vec![ADD, 59, 59, 60],
-        vec![JUMP, 13, 0],
-    ];
-    let saves = |cells: u8| [vec![cells], vec![EXCLUDE, CHECKPOINT, JUMP, 1, 0]];
-    [
-        ("arithmetic", arithmetic.concat(), 0, 1_000_000),
-        ("tables", tables.concat(), 0, 1_000_000),
-        ("saves of 256 cells", saves(255).concat(), MAX_CHIP, 66_000),
-        ("saves of 16 cells", saves(15).concat(), MAX_CHIP, 66_000),
-    ]
-    .map(|(name, plan, chip, budget)| Timed {
-        name,
-        plan,
-        chip,
-        budget,
-    })
-    .into()
-}
-
-/// An erased chip.
-pub fn erased(length: usize) -> Vec<u8> {
-    vec![ERASED; length]
 }

@@ -1,21 +1,22 @@
-//! Times the verified library against the baseline, in turns: check, and the whole of analyse, on
-//! each plan, reading a chip, and a run. A line gives the microseconds of a call of each, the least of many turns, and the
-//! ratio of the two. With `--bar X` a ratio above X is a failure:
-//! `cargo run --release -p bench -- --bar 2`.
+//! Times the verified library against the baseline, in turns: check, and the whole of analyse, on each plan; reading a
+//! chip and a run through the probe; and through the C entries runs of one step, recoveries, saves and long runs. A line
+//! gives the microseconds of a call of each, the least of many turns, and the ratio of the two. With `--bar X` a ratio
+//! above X is a failure: `cargo run --release -p bench -- --bar 2`. At the end stand the bytes that document 001's
+//! programs save.
 
 use std::env;
 use std::hint::black_box;
 use std::process::ExitCode;
-use std::time::Instant;
 
 use bench::baseline::{self, DEAD_WORDS, SET_WORDS};
 use bench::journals::{self, chips, PLAN};
-use bench::machine::{self, erased, timed, Timed};
+use bench::lent::Plain;
+use bench::machine::{self, Lent};
 use bench::plans::plans;
-
-/// For how many microseconds the two are timed on a plan, and how many a turn takes at least.
-const RACE: f64 = 500_000.0;
-const TURN: f64 = 100.0;
+use bench::race::race;
+use bench::sizes::{sizes, Sizes};
+use bench::timed::{erased, long_runs, one_step, recoveries, timed, whole_saves, Timed};
+use differential::call::{agree, words, Call, Callee, Library};
 
 fn main() -> ExitCode {
     let arguments: Vec<String> = env::args().skip(1).collect();
@@ -23,36 +24,15 @@ fn main() -> ExitCode {
         eprintln!("usage: bench [--bar X], X above 0");
         return ExitCode::from(2);
     };
-    let plans = plans();
-    for (name, plan) in &plans {
-        assert_same(name, plan);
-    }
-    println!("{:26}   library  baseline   ratio", "microseconds");
-    let mut passes = true;
-    for (name, plan) in &plans {
-        passes &= report("check", name, race_check(plan), bar);
-    }
-    for (name, plan) in &plans {
-        passes &= report("analyse", name, race_analyse(plan), bar);
-    }
-    for (name, chip) in &chips() {
-        let times = race_read(chip);
-        passes &= report("read", name, times, bar);
-        let [library, baseline] = times.map(|micros| chip.len() as f64 / micros);
-        println!("{:26}{library:10.0}{baseline:10.0}", "  megabytes a second");
-    }
-    for timed in &timed() {
-        let times = race_run(timed);
-        passes &= report("run", timed.name, times, bar);
-        let [library, baseline] = times.map(|micros| timed.budget as f64 / micros);
-        println!(
-            "{:26}{library:10.0}{baseline:10.0}",
-            "  million steps a second"
-        );
+    println!("{:30}   library  baseline   ratio", "microseconds");
+    let passes = [time_analysis(bar), time_probe(bar), time_calls(bar)];
+    println!();
+    for sizes in sizes().chunks(3) {
+        report_sizes(sizes);
     }
     match passes {
-        true => ExitCode::SUCCESS,
-        false => ExitCode::FAILURE,
+        [true, true, true] => ExitCode::SUCCESS,
+        _ => ExitCode::FAILURE,
     }
 }
 
@@ -65,6 +45,60 @@ fn bar(arguments: &[String]) -> Option<f64> {
     }
 }
 
+/// Check and analyse on each plan.
+fn time_analysis(bar: f64) -> bool {
+    let plans = plans();
+    let mut passes = true;
+    for (name, plan) in &plans {
+        assert_same(name, plan);
+        passes &= report("check", name, race_check(plan), bar);
+    }
+    for (name, plan) in &plans {
+        passes &= report("analyse", name, race_analyse(plan), bar);
+    }
+    passes
+}
+
+/// The chip reader and runs from the first state, through the probe.
+fn time_probe(bar: f64) -> bool {
+    let mut passes = true;
+    for (name, chip) in &chips() {
+        let times = race_read(chip);
+        passes &= report("read", name, times, bar);
+        report_rates("megabytes", times, chip.len() as f64);
+    }
+    for timed in &timed() {
+        let times = race_run(timed);
+        passes &= report("run", timed.name, times, bar);
+        report_rates("million steps", times, timed.budget as f64);
+    }
+    passes
+}
+
+/// Recoveries and runs through the C entries.
+fn time_calls(bar: f64) -> bool {
+    let mut passes = true;
+    for (name, call) in &one_step() {
+        passes &= report("C, 1 step", name, race_calls(call), bar);
+    }
+    for (name, call) in &recoveries() {
+        let times = race_calls(call);
+        passes &= report("C, recover", name, times, bar);
+        report_rates("megabytes", times, call.chip.len() as f64);
+    }
+    for (name, call) in &whole_saves() {
+        let times = race_calls(call);
+        passes &= report("C, save", name, times, bar);
+        report_rates("million steps", times, call.budget as f64);
+    }
+    for (name, call) in &long_runs() {
+        let times = race_calls(call);
+        passes &= report("C, run", name, times, bar);
+        report_rates("million steps", times, call.budget as f64);
+    }
+    passes
+}
+
 /// Asserts that library and baseline answer the same, in buffers with a word more than need be.
 fn assert_same(name: &str, plan: &[u8]) {
     let checked = baseline::check(plan).expect(name);
@@ -75,23 +109,12 @@ fn assert_same(name: &str, plan: &[u8]) {
     let mut sets = vec![0x5A; 8 * (SET_WORDS + 1)];
     let mut dead_words = words(&dead);
     let mut set_words = words(&sets);
-    assert_eq!(
-        differential::analyse(plan, &mut dead, &mut sets),
-        0,
-        "{name}"
-    );
-    assert_eq!(
-        baseline::analyse(plan, &mut dead_words, &mut set_words),
-        Ok(()),
-        "{name}"
-    );
+    let result = differential::analyse(plan, &mut dead, &mut sets);
+    assert_eq!(result, 0, "{name}");
+    let answer = baseline::analyse(plan, &mut dead_words, &mut set_words);
+    assert_eq!(answer, Ok(()), "{name}");
     assert_eq!(words(&dead), dead_words, "{name}");
     assert_eq!(words(&sets), set_words, "{name}");
-}
-
-fn words(bytes: &[u8]) -> Vec<u64> {
-    let (words, _) = bytes.as_chunks();
-    words.iter().map(|word| u64::from_le_bytes(*word)).collect()
 }
 
 fn race_check(plan: &[u8]) -> [f64; 2] {
@@ -135,10 +158,11 @@ fn race_read(chip: &[u8]) -> [f64; 2] {
         last.outputs,
         held.values[7],
     ];
-    assert_eq!(differential::probe(PLAN, chip, 7, [0; 7]), (0, numbers));
+    let found = differential::probe::chip(PLAN, chip, 7, [0; 7]);
+    assert_eq!(found, (0, numbers));
     race(
         || {
-            black_box(differential::probe(PLAN, black_box(chip), 7, [0; 7]));
+            black_box(differential::probe::chip(PLAN, black_box(chip), 7, [0; 7]));
         },
         || {
             let _ = black_box(journals::read(PLAN, black_box(chip)));
@@ -148,67 +172,53 @@ fn race_read(chip: &[u8]) -> [f64; 2] {
 
 /// Asserts that library and baseline run the same, and races them, each on a chip that is erased first.
 fn race_run(timed: &Timed) -> [f64; 2] {
-    let sets = vec![0; SET_WORDS];
-    let budget = timed.budget;
+    let (sets, budget) = ([0; SET_WORDS], timed.budget);
     let mut chips = [erased(timed.chip), erased(timed.chip)];
     let [ours, theirs] = &mut chips;
-    let ran = differential::run(&timed.plan, &sets, ours, &[], &mut [], budget, 0);
-    let expected = machine::run(&timed.plan, &sets, theirs, &[], &mut [], budget);
-    assert_eq!((Ok(ran), &*ours), (expected, &*theirs), "{}", timed.name);
+    let probe = |chip: &mut [u8]| {
+        let plan = black_box(&timed.plan);
+        differential::probe::run(plan, &sets, chip, &[], &mut [], budget, 0)
+    };
+    let plain = |chip: &mut [u8]| {
+        let mut lent = Lent {
+            sets: &[[0; 8]; SET_WORDS],
+            chip,
+            readings: &[],
+            outputs: &mut [],
+            budget,
+        };
+        machine::run(black_box(&timed.plan), &mut lent)
+    };
+    let expected = plain(theirs);
+    assert_eq!((Ok(probe(ours)), &*ours), (expected, &*theirs));
     race(
         || {
             ours.fill(0xFF);
-            let plan = black_box(&timed.plan);
-            black_box(differential::run(
-                plan,
-                &sets,
-                ours,
-                &[],
-                &mut [],
-                budget,
-                0,
-            ));
+            black_box(probe(ours));
         },
         || {
             theirs.fill(0xFF);
-            let plan = black_box(&timed.plan);
-            let _ = black_box(machine::run(plan, &sets, theirs, &[], &mut [], budget));
+            let _ = black_box(plain(theirs));
         },
     )
 }
 
-/// The least microseconds of a call of each.
-fn race(mut library: impl FnMut(), mut baseline: impl FnMut()) -> [f64; 2] {
-    let library_calls = calls_in_a_turn(&mut library);
-    let baseline_calls = calls_in_a_turn(&mut baseline);
-    let mut least = [f64::INFINITY; 2];
-    let started = Instant::now();
-    while micros_since(started) < RACE {
-        least[0] = least[0].min(turn(&mut library, library_calls));
-        least[1] = least[1].min(turn(&mut baseline, baseline_calls));
-    }
-    least
+/// Asserts that library and baseline answer the call as the reference does, and races them. The state is put back before
+/// each call; a run does not read the chip, and a recovery does not alter it.
+fn race_calls(call: &Call) -> [f64; 2] {
+    agree(&Library, call).expect("the library agrees with the reference");
+    agree(&Plain, call).expect("the baseline agrees with the reference");
+    let mut calls = [call.clone(), call.clone()];
+    let [ours, theirs] = &mut calls;
+    race(
+        || answer_again(&Library, ours, call),
+        || answer_again(&Plain, theirs, call),
+    )
 }
 
-fn calls_in_a_turn(job: &mut impl FnMut()) -> u32 {
-    let mut calls = 1;
-    while turn(job, calls) * f64::from(calls) < TURN {
-        calls *= 2;
-    }
-    calls
-}
-
-/// The microseconds of a call, by so many calls.
-fn turn(job: &mut impl FnMut(), calls: u32) -> f64 {
-    let started = Instant::now();
-    for _ in 0..calls {
-        job();
-    }
-    micros_since(started) / f64::from(calls)
-}
-
-fn micros_since(started: Instant) -> f64 {
-    started.elapsed().as_secs_f64() * 1e6
+fn answer_again(callee: &impl Callee, call: &mut Call, first: &Call) {
+    call.state.lend().copy_from_slice(first.state.lent());
+    black_box(callee.answer(black_box(call)));
 }
 
 /// Prints a plan's line, and gives whether its ratio passes.
@@ -216,6 +226,26 @@ fn report(job: &str, name: &str, [library, baseline]: [f64; 2], bar: f64) -> boo
     let ratio = library / baseline;
     let passes = ratio <= bar;
     let mark = if passes { "" } else { "  above the bar" };
-    println!("{job:8}{name:18}{library:10.2}{baseline:10.2}{ratio:8.2}{mark}");
+    println!("{job:12}{name:18}{library:10.2}{baseline:10.2}{ratio:8.2}{mark}");
     passes
+}
+
+/// Prints how much of what a call works on each does in a second.
+fn report_rates(what: &str, micros: [f64; 2], work: f64) {
+    let [library, baseline] = micros.map(|micros| work / micros);
+    let text = format!("  {what} a second");
+    println!("{text:30}{library:10.0}{baseline:10.0}");
+}
+
+/// Prints the bytes of one program's saves under each rule; the first is the measure of the others.
+fn report_sizes(sizes: &[Sizes]) {
+    let text = format!("{}, bytes of a save", sizes[0].program);
+    println!("{text:30}     saves     first      last   average  of every cell");
+    for of_rule in sizes {
+        let (rule, saves) = (of_rule.rule, &of_rule.saves);
+        let (count, first, last) = (saves.len(), saves[0], saves[saves.len() - 1]);
+        let average = of_rule.total() as f64 / count as f64;
+        let percent = 100.0 * of_rule.total() as f64 / sizes[0].total() as f64;
+        println!("  {rule:28}{count:10}{first:10}{last:10}{average:10.1}{percent:13.0} %");
+    }
 }

@@ -1,6 +1,7 @@
 //! Random lists of calls, each drawn from a seed.
 
 use std::ops::Range;
+use std::thread::{available_parallelism, scope};
 
 use reference::layout::STATE_BYTES;
 use reference::machine::SET_WORDS;
@@ -13,16 +14,45 @@ use crate::rng::Rng;
 use crate::sentence::{Sentence, Violation};
 use crate::watch::{Start, Watch};
 
-/// Watches the lists of these seeds up to the first that violates a sentence, and gives its seed.
+/// Watches the lists of these seeds, on as many threads as the machine runs at once. Gives the lowest seed whose list
+/// violates a sentence, if one does.
 pub fn watch_lists(
-    engine: &impl Engine,
+    engine: &(impl Engine + Sync),
     seeds: Range<u64>,
     met: &mut Met,
 ) -> Result<(), (u64, Violation)> {
-    for seed in seeds {
-        watch_list(engine, seed, met).map_err(|violation| (seed, violation))?;
+    let count = available_parallelism().map_or(1, usize::from);
+    let outcomes: Vec<_> = scope(|scope| {
+        let spawn = |first: usize| {
+            let seeds = seeds.clone().skip(first).step_by(count);
+            scope.spawn(move || watch_some(engine, seeds))
+        };
+        let threads: Vec<_> = (0..count).map(spawn).collect();
+        let joined = threads.into_iter().map(|thread| thread.join());
+        joined.map(|outcome| outcome.expect("no panic")).collect()
+    });
+    let mut violations = Vec::new();
+    for (met_there, violated) in outcomes {
+        met.add_all(&met_there);
+        violations.extend(violated);
     }
-    Ok(())
+    match violations.into_iter().min_by_key(|(seed, _)| *seed) {
+        Some(violated) => Err(violated),
+        None => Ok(()),
+    }
+}
+
+/// Watches the lists up to the first that violates a sentence.
+fn watch_some(
+    engine: &impl Engine,
+    mut seeds: impl Iterator<Item = u64>,
+) -> (Met, Option<(u64, Violation)>) {
+    let mut met = Met::default();
+    let violated = seeds.find_map(|seed| {
+        let violation = watch_list(engine, seed, &mut met).err()?;
+        Some((seed, violation))
+    });
+    (met, violated)
 }
 
 /// Watches the list of this seed, and adds what it met.

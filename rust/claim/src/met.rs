@@ -43,17 +43,29 @@ impl Met {
         *self.0.entry(name).or_default() += number;
     }
 
+    /// Adds what other lists met.
+    pub fn add_all(&mut self, other: &Met) {
+        for (name, number) in &other.0 {
+            self.add(name, *number);
+        }
+    }
+
     pub fn get(&self, name: &str) -> u64 {
         self.0.get(name).copied().unwrap_or(0)
     }
 
     /// Asserts that the lists met enough of everything.
     pub fn assert_floors(&self) {
-        let lists = self.get("lists");
-        assert!(lists > 0, "no list");
-        for (name, floor) in FLOORS {
+        self.assert_floors_per("lists", &FLOORS);
+    }
+
+    /// Asserts that every thousand of what is named met as much as the floors say.
+    pub fn assert_floors_per(&self, of: &str, floors: &[(&str, u64)]) {
+        let all = self.get(of);
+        assert!(all > 0, "no {of}");
+        for (name, floor) in floors {
             let met = self.get(name);
-            assert!(1000 * met >= floor * lists, "{met} {name} in {lists} lists");
+            assert!(1000 * met >= floor * all, "{met} {name} in {all} {of}");
         }
     }
 }

@@ -43,7 +43,7 @@ fn caught(alter: Alter, by: &[Sentence]) {
 }
 
 #[track_caller]
-fn keeps_the_claim(engine: &impl Engine, seeds: Range<u64>) {
+fn keeps_the_claim(engine: &(impl Engine + Sync), seeds: Range<u64>) {
     let mut met = Met::default();
     if let Err((seed, violation)) = watch_lists(engine, seeds, &mut met) {
         panic!("seed {seed}: {violation}");

@@ -75,15 +75,18 @@ fn save(rng: &mut Rng, plan: &[u8], last: Mark) -> Save {
     }
 }
 
+/// What counts as the mark before the first save.
+const FIRST: Mark = Mark {
+    place: 1,
+    exclude: 0,
+    readings: 0,
+    outputs: 0,
+};
+
 /// A chip as the engine leaves it: sound saves, often a part of one more, and FF.
 pub fn stored(rng: &mut Rng, plan: &[u8]) -> Vec<u8> {
     let mut chip = Vec::new();
-    let mut last = Mark {
-        place: 1,
-        exclude: 0,
-        readings: 0,
-        outputs: 0,
-    };
+    let mut last = FIRST;
     for _ in 0..rng.below(4) {
         let save = save(rng, plan, last);
         last = save.mark;
@@ -94,6 +97,22 @@ pub fn stored(rng: &mut Rng, plan: &[u8]) -> Vec<u8> {
     let erased = rng.pick(&[0, 0, 1, 7, 40]);
     chip.resize(chip.len() + erased, ERASED);
     chip
+}
+
+/// A chip of this length that is filled with sound saves, as many as there is room for, and FF.
+pub fn filled(rng: &mut Rng, plan: &[u8], length: usize) -> Vec<u8> {
+    let mut chip = Vec::new();
+    let mut last = FIRST;
+    loop {
+        let save = save(rng, plan, last);
+        let bytes = save.bytes();
+        if chip.len() + bytes.len() > length {
+            chip.resize(length, ERASED);
+            return chip;
+        }
+        last = save.mark;
+        chip.extend(bytes);
+    }
 }
 
 /// The chip with a few bytes replaced, mostly by bytes that mean something, or some dropped.

@@ -60,6 +60,20 @@ pub fn linked(cells: usize, commands: &[(impl AsRef<[u8]>, Option<usize>)]) -> V
     plan
 }
 
+/// Document 01's examples of refused plans, by their numbers from 1 on.
+pub fn refused_examples() -> [Vec<u8>; 8] {
+    [
+        vec![],
+        vec![0x00, 0x7F],
+        vec![0x00, 0x08],
+        vec![0x00, 0x08, 0x01],
+        vec![0x00, 0x0B, 0x00, 0x00, 0x02, 0x00],
+        plan(1, &[&[0x01; 513]]),
+        vec![0x00],
+        vec![0x00, 0x09, 0x02, 0x00],
+    ]
+}
+
 /// A plan in the making: its bytes, its commands' offsets, and where in the bytes each t stands.
 pub struct Draft {
     pub bytes: Vec<u8>,
@@ -296,6 +310,30 @@ pub fn reversed(rng: &mut Rng) -> Draft {
         draft.set_target(block.end - 2, before.start);
     }
     draft.set_target(entry, blocks[blocks.len() - 1].start);
+    draft
+}
+
+/// An accepted plan that goes round and round, mostly over READs and EMITs, so that a run of it takes and gives as many
+/// numbers as it is lent places for.
+pub fn stream(rng: &mut Rng) -> Draft {
+    let cells = few_cells(rng, 8);
+    let mut draft = Draft::woven(rng, cells);
+    for _ in 0..rng.below(4) {
+        let command = rng.pick(&[SET, SET, READ, COPY]);
+        draft.push(rng, command);
+    }
+    let top = draft.bytes.len();
+    let others = [ADD, SUB, COPY, GET, PUT, EXCLUDE, CHECKPOINT];
+    for _ in 0..1 + rng.below(6) {
+        let command = match rng.below(4) {
+            0 => rng.pick(&others),
+            _ => rng.pick(&[READ, EMIT]),
+        };
+        draft.push(rng, command);
+    }
+    draft.push(rng, JUMP);
+    let at = draft.bytes.len() - 2;
+    draft.set_target(at, top);
     draft
 }
 

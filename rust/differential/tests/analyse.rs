@@ -2,9 +2,8 @@
 //! buffers as it stands after the call. Where document 01 says the answer outright, it is stated
 //! here as well.
 
-use std::ops::Range;
-
 use differential::analyse_null;
+use differential::buffer::Buffer;
 use differential::examples::{programs, SMALL};
 use differential::features::features;
 use differential::plans::{self, linked, plan, Draft, COMMANDS};
@@ -20,50 +19,6 @@ type Answer = Result<Analysis, u32>;
 
 /// One of the functions that make random plans.
 type Maker = fn(&mut Rng) -> Draft;
-
-/// A buffer to lend. Other bytes lie before and behind it, which no call may alter.
-struct Buffer {
-    bytes: Vec<u8>,
-    lent: Range<usize>,
-}
-
-impl Buffer {
-    /// A buffer of `len` bytes whose address is `shift`, 0 to 7, above a multiple of 8.
-    fn new(len: usize, shift: usize, fill: impl FnMut() -> u8) -> Buffer {
-        let mut bytes = vec![0; len + 32];
-        bytes.fill_with(fill);
-        let begin = 8 + bytes.as_ptr().align_offset(8) + shift;
-        Buffer {
-            bytes,
-            lent: begin..begin + len,
-        }
-    }
-
-    fn words(&self) -> usize {
-        self.lent.len() / 8
-    }
-
-    fn lend(&mut self) -> &mut [u8] {
-        &mut self.bytes[self.lent.clone()]
-    }
-
-    /// What all the bytes are once these words stand at the buffer's beginning.
-    fn with(&self, words: &[u64]) -> Vec<u8> {
-        let mut bytes = self.bytes.clone();
-        let places = bytes[self.lent.clone()].chunks_exact_mut(8);
-        for (place, word) in places.zip(words) {
-            place.copy_from_slice(&word.to_le_bytes());
-        }
-        bytes
-    }
-
-    /// The first place whose byte is not as expected. The buffer begins with 0.
-    fn differs(&self, expected: &[u8]) -> Option<isize> {
-        let differ = |(found, expected): (&u8, &u8)| found != expected;
-        let place = self.bytes.iter().zip(expected).position(differ)?;
-        Some(place as isize - self.lent.start as isize)
-    }
-}
 
 /// Asserts that the library does with these buffers what the reference says of the plan, and gives
 /// the result.

@@ -28,7 +28,7 @@ fn agreed(plan: &[u8], chip: &[u8], cell: u8) -> u32 {
             (0, numbers)
         }
     };
-    let found = probe(plan, chip, cell, BEFORE);
+    let found = probe::chip(plan, chip, cell, BEFORE);
     assert_eq!(found, expected, "plan {plan:02X?} chip {chip:02X?}");
     found.0
 }

@@ -1,0 +1,190 @@
+//! What is timed: plans for runs, and calls through the C interface.
+
+use differential::buffer::Buffer;
+use differential::call::{number_bytes, words, Call};
+use differential::examples::SMALL;
+use reference::journal::{ERASED, MAX_CHIP};
+use reference::layout::{run_bytes, STATE_BYTES};
+use reference::machine::{Ended, State};
+use reference::program::{
+    ADD, CHECKPOINT, COPY, DIV, EMIT, EXCLUDE, GET, JUMP, LESS, PUT, READ, SET, SUB,
+};
+
+use crate::baseline::SET_WORDS;
+use crate::journals::{chips, PLAN};
+use crate::plans::plans;
+
+/// A plan to time, with its sets left empty: the length of the chip and the budget.
+pub struct Timed {
+    pub name: &'static str,
+    pub plan: Vec<u8>,
+    pub chip: usize,
+    pub budget: u64,
+}
+
+/// An arithmetic loop, a loop over tables, and saves until the chip is full.
+pub fn timed() -> Vec<Timed> {
+    [
+        ("arithmetic", arithmetic(), 0, 1_000_000),
+        ("tables", tables(), 0, 1_000_000),
+        ("saves of 256 cells", saves(256), MAX_CHIP, 66_000),
+        ("saves of 16 cells", saves(16), MAX_CHIP, 66_000),
+    ]
+    .map(|(name, plan, chip, budget)| Timed {
+        name,
+        plan,
+        chip,
+        budget,
+    })
+    .into()
+}
+
+fn set(cell: u8, value: i32) -> Vec<u8> {
+    [&[SET, cell][..], &value.to_le_bytes()].concat()
+}
+
+fn arithmetic() -> Vec<u8> {
+    [
+        vec![7],
+        set(1, 1),
+        set(2, 1000),
+        set(3, 7),
+        // Offset 19.
+        vec![ADD, 0, 0, 1],
+        vec![SUB, 4, 2, 0],
+        vec![DIV, 5, 4, 3],
+        vec![COPY, 6, 5],
+        vec![ADD, 7, 6, 5],
+        vec![LESS, 0, 2, 19, 0],
+        vec![SUB, 0, 0, 0],
+        vec![JUMP, 19, 0],
+    ]
+    .concat()
+}
+
+fn tables() -> Vec<u8> {
+    [
+        vec![63],
+        set(60, 1),
+        set(61, 17),
+        // Offset 13.
+        vec![GET, 62, 0, 50, 59],
+        vec![ADD, 62, 62, 61],
+        vec![PUT, 0, 50, 59, 62],
+        vec![ADD, 59, 59, 60],
+        vec![JUMP, 13, 0],
+    ]
+    .concat()
+}
+
+/// A plan of so many cells that saves again and again.
+fn saves(cells: usize) -> Vec<u8> {
+    vec![(cells - 1) as u8, EXCLUDE, CHECKPOINT, JUMP, 1, 0]
+}
+
+/// The place of the CHECKPOINT in `saves`.
+const SAVES_AT: u32 = 2;
+
+/// The bytes of a save of so many cells.
+fn save_len(cells: usize) -> u64 {
+    6 * cells as u64 + 14
+}
+
+/// An erased chip.
+pub fn erased(length: usize) -> Vec<u8> {
+    vec![ERASED; length]
+}
+
+/// A call of run from a state, on an erased chip, with empty sets.
+fn run_call(plan: &[u8], chip: usize, state: &State, budget: u64) -> Call {
+    let sets = [0; SET_WORDS];
+    Call {
+        budget,
+        ..Call::run(plan, &sets, &erased(chip), &state.to_bytes())
+    }
+}
+
+/// A run of one step of a plan that has taken so many already.
+fn one_step_after(plan: &[u8], steps: u64) -> Call {
+    let mut call = run_call(plan, 4_096, &State::first(), 1);
+    let readings: Vec<i32> = (0..100).map(|k| k % 2).collect();
+    let (sets, room) = (words(call.sets.lent()), 100);
+    let (chip, state) = (call.chip.lend(), call.state.lend());
+    let ran = run_bytes(plan, &sets, chip, state, &readings, room, steps);
+    let ran = ran.expect("the run is accepted");
+    assert_eq!(ran.ended, Ended::Spent, "the plan goes on");
+    call.readings = Buffer::plain(&number_bytes(&readings[ran.taken..]));
+    call.outputs = Buffer::plain(&number_bytes(&[0; 100]));
+    call
+}
+
+/// Calls of run with a budget of one step, with their names: a command of several plans, each in the middle of its work,
+/// and steps that concern the chip.
+pub fn one_step() -> Vec<(&'static str, Call)> {
+    let mut calls = vec![("small plan", one_step_after(SMALL, 3))];
+    for (name, plan) in plans() {
+        let steps = match name {
+            "CELL" | "CONTOUR" => 300,
+            "SIEVE" => 200,
+            "straight" => 150,
+            _ => continue,
+        };
+        calls.push((name, one_step_after(&plan, steps)));
+    }
+    calls.extend(one_step_of_saves());
+    calls
+}
+
+fn one_step_of_saves() -> [(&'static str, Call); 4] {
+    let exclude = State::first();
+    let mut checkpoint = State::first();
+    checkpoint.place = SAVES_AT;
+    let mut storing = checkpoint.clone();
+    storing.saving = Some(700);
+    let mut erasing = State::first();
+    erasing.erase = 700;
+    [
+        ("EXCLUDE, 256 cells", exclude),
+        ("CHECKPOINT, 256", checkpoint),
+        ("a byte stored", storing),
+        ("a byte erased", erasing),
+    ]
+    .map(|(name, state)| (name, run_call(&saves(256), 4_096, &state, 1)))
+}
+
+/// Calls of recovery on full chips, with their names.
+pub fn recoveries() -> Vec<(&'static str, Call)> {
+    let call = |chip: &[u8]| Call::recover(PLAN, &[0; SET_WORDS], chip, &[0; STATE_BYTES]);
+    let chips = chips().into_iter();
+    chips.map(|(name, chip)| (name, call(&chip))).collect()
+}
+
+/// Calls of run that store one whole save, with their names.
+pub fn whole_saves() -> Vec<(&'static str, Call)> {
+    [("256 cells", 256), ("16 cells", 16)]
+        .map(|(name, cells)| {
+            let mut state = State::first();
+            state.place = SAVES_AT;
+            let budget = 1 + save_len(cells);
+            (name, run_call(&saves(cells), 4_096, &state, budget))
+        })
+        .into()
+}
+
+/// Calls of run with a large budget, with their names: the last takes 30,000 readings and gives as many outputs.
+pub fn long_runs() -> Vec<(&'static str, Call)> {
+    let of = |plan: &[u8], chip, budget| run_call(plan, chip, &State::first(), budget);
+    let stream = [0, READ, 0, EMIT, 0, JUMP, 1, 0];
+    let numbers: Vec<i32> = (0..30_000).map(|k| k * 41 - 7).collect();
+    let streaming = Call {
+        readings: Buffer::plain(&number_bytes(&numbers)),
+        outputs: Buffer::plain(&number_bytes(&numbers)),
+        ..of(&stream, 0, 90_000)
+    };
+    vec![
+        ("arithmetic", of(&arithmetic(), 0, 100_000)),
+        ("tables", of(&tables(), 0, 100_000)),
+        ("saves of 256 cells", of(&saves(256), MAX_CHIP, 66_000)),
+        ("READ and EMIT", streaming),
+    ]
+}

@@ -1,0 +1,53 @@
+//! Holds the plain recovery and run to the reference on calls drawn from seeds, half of them hostile, so that the library
+//! is timed against what is right; and the calls that are timed.
+
+use bench::lent::Plain;
+use bench::timed::{long_runs, one_step, recoveries, whole_saves};
+use differential::call::{agree, Entry, Library};
+use differential::seeded::seeded;
+
+#[test]
+fn calls_from_seeds() {
+    for (entry, calls, results) in [
+        (Entry::Check, 5_000, 9),
+        (Entry::Analyse, 1_000, 10),
+        (Entry::Recover, 20_000, 13),
+        (Entry::Run, 20_000, 12),
+    ] {
+        let mut hits = [0; 13];
+        for seed in 0..calls {
+            let call = seeded(entry, seed).call;
+            let (result, _) = agree(&Plain, &call)
+                .unwrap_or_else(|difference| panic!("{entry:?} {seed}: {difference}"));
+            hits[result as usize] += 1;
+        }
+        println!("{entry:?} with the answers 0 to 12: {hits:?}");
+        assert!(hits[..results].iter().all(|&count| count >= 5));
+    }
+}
+
+#[test]
+fn the_timed_calls() {
+    for (name, call) in [one_step(), recoveries(), whole_saves(), long_runs()].concat() {
+        let ours = agree(&Library, &call).expect(name);
+        let theirs = agree(&Plain, &call).expect(name);
+        assert_eq!([ours.0, theirs.0], [0, 0], "{name}");
+    }
+}
+
+#[test]
+fn the_timed_calls_do_what_their_names_say() {
+    for (name, call) in one_step() {
+        let (_, left) = agree(&Plain, &call).expect(name);
+        assert_eq!(left.ran().steps, 1, "{name}");
+    }
+    for (name, call) in whole_saves() {
+        let (_, left) = agree(&Plain, &call).expect(name);
+        // 5A is the last byte of a save.
+        let last = call.budget as usize - 2;
+        assert_eq!(left.chip.lent()[last..last + 2], [0x5A, 0xFF], "{name}");
+    }
+    let (_, stream) = &long_runs()[3];
+    let ran = agree(&Plain, stream).expect("the stream").1.ran();
+    assert_eq!((ran.ended, ran.taken, ran.given), (4, 30_000, 30_000));
+}

@@ -1,0 +1,62 @@
+//! The verified library, through C, as an engine of the harness for document 01's demand 3.
+
+use claim::{Engine, Lent, Ran};
+
+use crate::buffer::Buffer;
+use crate::call::{number_bytes, numbers, word_bytes, words, Call, Callee, Library, DEAD_WORDS};
+
+impl Engine for Library {
+    fn analyse(&self, plan: &[u8], sets: &mut [u64]) {
+        let mut dead = vec![0; 8 * DEAD_WORDS];
+        let mut bytes = word_bytes(sets);
+        let result = crate::analyse(plan, &mut dead, &mut bytes);
+        assert_eq!(result, 0, "the plan is accepted");
+        sets.copy_from_slice(&words(&bytes));
+    }
+
+    fn recover(&self, lent: Lent) -> Result<(), u32> {
+        let mut call = Call::recover(lent.plan, lent.sets, lent.chip, lent.state);
+        let result = self.answer(&mut call);
+        give_back(&call, lent);
+        accepted(result)
+    }
+
+    fn run(
+        &self,
+        lent: Lent,
+        readings: &[i32],
+        outputs: &mut [i32],
+        budget: u64,
+    ) -> Result<Ran, u32> {
+        let mut call = Call {
+            readings: Buffer::plain(&number_bytes(readings)),
+            outputs: Buffer::plain(&number_bytes(outputs)),
+            budget,
+            ..Call::run(lent.plan, lent.sets, lent.chip, lent.state)
+        };
+        let result = self.answer(&mut call);
+        give_back(&call, lent);
+        outputs.copy_from_slice(&numbers(call.outputs.lent()));
+        accepted(result)?;
+        let ran = call.ran();
+        Ok(Ran {
+            ended: ran.ended,
+            steps: ran.steps,
+            taken: ran.taken as usize,
+            written: ran.given as usize,
+        })
+    }
+}
+
+/// Hands back what the call left, a refused one too: the harness looks at it.
+fn give_back(call: &Call, lent: Lent) {
+    lent.chip.copy_from_slice(call.chip.lent());
+    lent.state.copy_from_slice(call.state.lent());
+}
+
+fn accepted(result: u32) -> Result<(), u32> {
+    match result {
+        0 => Ok(()),
+        number => Err(number),
+    }
+}

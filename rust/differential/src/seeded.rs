@@ -1,0 +1,299 @@
+//! Calls of the C entries, each drawn from a seed. Those of even seeds have no fault and are accepted; those of odd seeds
+//! are hostile: something of what is lent is wrong, often two things at once.
+
+use reference::journal::{ERASED, MAX_CHIP};
+use reference::layout::{recover_bytes, run_bytes, STATE_BYTES};
+
+use crate::buffer::Buffer;
+use crate::call::{number_bytes, words, Call, Entry, DEAD_WORDS, SET_WORDS};
+use crate::examples::{programs, SMALL};
+use crate::faults;
+use crate::journals::{self, filled, stored};
+use crate::plans::{crowded, large, long, reversed, stream, valid, woven, Draft};
+use crate::rng::Rng;
+use crate::states::{faulty, sound, value, Shape};
+
+/// A call, and the names of its faults.
+pub struct Seeded {
+    pub call: Call,
+    pub faults: Vec<&'static str>,
+}
+
+/// The call of this seed.
+pub fn seeded(entry: Entry, seed: u64) -> Seeded {
+    // An odd factor spreads neighbouring seeds, and takes none but 0 to 0.
+    let mut rng = Rng::new((seed + 1).wrapping_mul(0x9E37_79B9_7F4A_7C15));
+    let mut content = content(&mut rng, entry);
+    let mut faults = Vec::new();
+    if seed % 2 == 1 {
+        for _ in 0..rng.pick(&[1, 1, 2]) {
+            faults.push(content.spoil(&mut rng, entry));
+        }
+    }
+    Seeded {
+        call: content.lent(&mut rng, entry),
+        faults,
+    }
+}
+
+/// The bytes of what is lent, and the budget.
+#[derive(Default)]
+struct Content {
+    plan: Vec<u8>,
+    dead: Vec<u8>,
+    sets: Vec<u8>,
+    chip: Vec<u8>,
+    state: Vec<u8>,
+    readings: Vec<u8>,
+    outputs: Vec<u8>,
+    budget: u64,
+}
+
+fn content(rng: &mut Rng, entry: Entry) -> Content {
+    let many = entry == Entry::Run && rng.below(12) == 0;
+    let mut content = Content {
+        plan: match many {
+            true => stream(rng).bytes,
+            false => plan(rng, entry),
+        },
+        ..Content::default()
+    };
+    match entry {
+        Entry::Check => {}
+        Entry::Analyse => {
+            content.dead = vec![rng.byte(); 8 * DEAD_WORDS + rng.below(20)];
+            content.sets = vec![rng.byte(); 8 * SET_WORDS + rng.below(20)];
+        }
+        Entry::Recover => content.for_recover(rng),
+        Entry::Run => content.for_run(rng, many),
+    }
+    content
+}
+
+/// An accepted plan. The reference's analysis is slow on large ones, so analyse seldom gets one.
+fn plan(rng: &mut Rng, entry: Entry) -> Vec<u8> {
+    let seldom = match entry {
+        Entry::Analyse => 100,
+        _ => 4,
+    };
+    match rng.below(16) {
+        0..4 => claim::plans::plan(rng),
+        4..8 => stream(rng).bytes,
+        8 => valid(rng).bytes,
+        9..11 => woven(rng).bytes,
+        11 => reversed(rng).bytes,
+        12 => SMALL.to_vec(),
+        13 => {
+            let [(_, cell), (_, sieve), (_, contour)] = programs();
+            [cell, sieve, contour][rng.below(3)].clone()
+        }
+        14 if rng.below(seldom) == 0 => any_of(rng, &[large, crowded, long]),
+        14 => valid(rng).bytes,
+        _ => {
+            let plans = journals::plans();
+            plans[rng.below(plans.len())].clone()
+        }
+    }
+}
+
+/// An accepted plan of one of these, which make some that are too large.
+fn any_of(rng: &mut Rng, makers: &[fn(&mut Rng) -> Draft]) -> Vec<u8> {
+    loop {
+        let plan = rng.pick(makers)(rng).bytes;
+        if reference::check(&plan).is_ok() {
+            return plan;
+        }
+    }
+}
+
+/// Words of DE and RO, with a rest of some bytes: those found for the plan, or others, which are as good.
+fn sets(rng: &mut Rng, plan: &[u8]) -> Vec<u8> {
+    let mut words = match rng.below(4) {
+        // The reference's analysis takes long on long plans.
+        0 if plan.len() < 100 => reference::analyse(plan).map_or(vec![], |found| found.set_words()),
+        _ => vec![],
+    };
+    let kind = rng.below(4);
+    words.resize_with(SET_WORDS + rng.below(3), || match kind {
+        0 => 0,
+        1 => rng.word() & rng.word() & rng.word(),
+        2 => rng.word() | rng.word(),
+        _ => rng.word(),
+    });
+    let mut bytes = crate::call::word_bytes(&words);
+    bytes.resize(bytes.len() + rng.below(8), 0xA5);
+    bytes
+}
+
+/// Readings or outputs: how many. The library takes 1,024 at a time, so many are often about 1,024 or twice that.
+fn how_many(rng: &mut Rng, many: bool) -> usize {
+    match many {
+        false => rng.pick(&[0, 1, 2, 5, 60, 100]),
+        true => match rng.below(3) {
+            0 => rng.pick(&[1_023, 1_024, 1_025, 2_047, 2_048, 2_049]),
+            _ => rng.below(8_000),
+        },
+    }
+}
+
+fn budget(rng: &mut Rng, many: bool) -> u64 {
+    let budget = match (many, rng.below(6)) {
+        (true, _) => 2_000 + rng.below(18_001),
+        (false, 0) => rng.below(3),
+        // The library stores fewer than 16 bytes of a save in another way than more.
+        (false, 1) => 13 + rng.below(6),
+        (false, 2) => rng.below(40),
+        (false, 3) => rng.below(300),
+        (false, 4) => rng.below(2_000),
+        (false, _) => match rng.below(8) {
+            0 => rng.below(20_001),
+            _ => rng.below(300),
+        },
+    };
+    budget as u64
+}
+
+/// Signed numbers as bytes, with a rest of some bytes.
+fn numbers(rng: &mut Rng, count: usize) -> Vec<u8> {
+    let numbers: Vec<i32> = (0..count).map(|_| value(rng)).collect();
+    let mut bytes = number_bytes(&numbers);
+    bytes.resize(bytes.len() + rng.below(4), 0xA5);
+    bytes
+}
+
+impl Content {
+    fn has_checkpoint(&self) -> bool {
+        !Shape::of(&self.plan).checkpoints.is_empty()
+    }
+
+    /// A chip as the engine leaves it; seldom a large one, which takes the reference long.
+    fn sound_chip(&self, rng: &mut Rng) -> Vec<u8> {
+        match (self.has_checkpoint(), rng.below(200)) {
+            (false, _) => vec![ERASED; rng.below(100)],
+            (true, 0) => {
+                let length = rng.pick(&[4_000, 20_000, MAX_CHIP]);
+                filled(rng, &self.plan, length)
+            }
+            (true, _) => stored(rng, &self.plan),
+        }
+    }
+
+    fn for_recover(&mut self, rng: &mut Rng) {
+        self.sets = sets(rng, &self.plan);
+        self.chip = self.sound_chip(rng);
+        self.state = match rng.below(2) {
+            0 => vec![rng.byte(); STATE_BYTES],
+            _ => (0..STATE_BYTES).map(|_| rng.byte()).collect(),
+        };
+    }
+
+    /// What a run is lent; `many` readings and places for outputs where the plan uses them.
+    fn for_run(&mut self, rng: &mut Rng, many: bool) {
+        self.sets = sets(rng, &self.plan);
+        let (readings, room) = (how_many(rng, many), how_many(rng, many));
+        self.readings = numbers(rng, readings);
+        self.outputs = vec![rng.byte(); 4 * room + rng.below(4)];
+        self.budget = budget(rng, many);
+        match rng.below(4) {
+            0 => self.reach(rng),
+            _ => self.stand(rng),
+        }
+    }
+
+    /// A chip of any bytes and a sound state.
+    fn stand(&mut self, rng: &mut Rng) {
+        let length = match rng.below(100) {
+            0 => MAX_CHIP,
+            1..10 => rng.below(4_000),
+            10..30 => rng.below(40),
+            _ => rng.below(400),
+        };
+        self.chip = match rng.below(2) {
+            0 => vec![ERASED; length],
+            _ => (0..length).map(|_| rng.byte()).collect(),
+        };
+        let shape = Shape::of(&self.plan);
+        self.state = sound(rng, &shape, length).to_bytes().into();
+    }
+
+    /// The chip and the state that a recovery and a run leave.
+    fn reach(&mut self, rng: &mut Rng) {
+        self.chip = self.sound_chip(rng);
+        self.chip.resize(self.chip.len() + rng.below(200), ERASED);
+        self.chip.truncate(MAX_CHIP);
+        self.state = vec![0; STATE_BYTES];
+        let sets = words(&self.sets);
+        let (chip, state) = (&mut self.chip, &mut self.state);
+        let plan = &self.plan;
+        recover_bytes(plan, &sets, chip, state).expect("the engine leaves a sound chip");
+        let budget = rng.below(80) as u64;
+        let ran = run_bytes(plan, &sets, chip, state, &[3, -1, 7, 0], 9, budget);
+        ran.expect("recovery leaves a sound state");
+    }
+
+    /// Spoils something of what the entry is lent, and gives the fault's name.
+    fn spoil(&mut self, rng: &mut Rng, entry: Entry) -> &'static str {
+        match (entry, rng.below(10)) {
+            (Entry::Check, _) | (_, 0..4) => self.spoil_plan(rng),
+            (Entry::Analyse, 4..7) => {
+                let length = faults::short_words(rng, DEAD_WORDS);
+                self.dead.truncate(length);
+                "too few words of dead sets"
+            }
+            (Entry::Analyse, _) | (_, 4) => {
+                let length = faults::short_words(rng, SET_WORDS);
+                self.sets.truncate(length);
+                "too few words of DE and RO"
+            }
+            (_, 5) => {
+                self.chip = faults::long_chip(rng, std::mem::take(&mut self.chip));
+                "a chip that is too long"
+            }
+            (Entry::Recover, 6) => {
+                let length = rng.pick(&[0, STATE_BYTES - 1, STATE_BYTES + 1, 2 * STATE_BYTES]);
+                self.state.resize(length, 0);
+                "a state of another length"
+            }
+            (Entry::Recover, _) => {
+                self.chip = faults::chip(rng, std::mem::take(&mut self.chip));
+                "an altered chip"
+            }
+            (Entry::Run, _) => self.spoil_state(rng),
+        }
+    }
+
+    fn spoil_plan(&mut self, rng: &mut Rng) -> &'static str {
+        // The plan may be refused already.
+        if reference::check(&self.plan).is_ok() {
+            self.plan = faults::plan(rng, &self.plan);
+        }
+        "an altered plan"
+    }
+
+    fn spoil_state(&mut self, rng: &mut Rng) -> &'static str {
+        if reference::check(&self.plan).is_err() {
+            self.state = vec![rng.byte(); STATE_BYTES];
+            return "a state of any bytes";
+        }
+        let (name, state) = faulty(rng, &Shape::of(&self.plan), self.chip.len());
+        self.state = state;
+        name
+    }
+
+    /// Lends it at any address, with any numbers, empty slices now and then as null pointers.
+    fn lent(&self, rng: &mut Rng, entry: Entry) -> Call {
+        Call {
+            plan: Buffer::holding(rng, &self.plan),
+            dead: Buffer::holding(rng, &self.dead),
+            sets: Buffer::holding(rng, &self.sets),
+            chip: Buffer::holding(rng, &self.chip),
+            state: Buffer::holding(rng, &self.state),
+            readings: Buffer::holding(rng, &self.readings),
+            outputs: Buffer::holding(rng, &self.outputs),
+            budget: self.budget,
+            numbers: [(); 4].map(|()| rng.word()),
+            nulls: rng.below(2) == 0,
+            ..Call::new(entry)
+        }
+    }
+}

@@ -1,0 +1,322 @@
+//! Calls of the four C entries drawn from seeds, half of them hostile, answered by the library and by the reference: the
+//! same result, and the same in every byte of every buffer and in every number after the call. `PITSKELO_CALLS` sets how
+//! many calls of each entry there are.
+
+use std::env;
+
+use claim::Met;
+use differential::call::{
+    agree, answered, difference, Answer, Call, Entry, Library, Reference, SET_WORDS,
+};
+use differential::seeded::{seeded, Seeded};
+use differential::states::FAULTS;
+use reference::journal::MAX_CHIP;
+use reference::machine::State;
+
+/// How many readings or outputs the library takes at a time.
+const STRETCH: u64 = 1_024;
+
+/// The results by number, as they are counted.
+const RESULTS: [&str; 13] = [
+    "accepted",
+    "refused 1",
+    "refused 2",
+    "refused 3",
+    "refused 4",
+    "refused 5",
+    "refused 6",
+    "refused 7",
+    "refused 8",
+    "refused 9",
+    "refused 10",
+    "refused 11",
+    "refused 12",
+];
+
+/// How runs end, by number, as they are counted.
+const ENDS: [&str; 7] = [
+    "not ended",
+    "stopped, ended",
+    "stopped, divisor",
+    "stopped, count full",
+    "budget spent",
+    "no reading left",
+    "output buffer full",
+];
+
+/// How many of a thousand calls must at least get each refusal of their entry.
+const EACH_REFUSAL: u64 = 10;
+
+/// The same for what else recoveries must meet.
+const OF_RECOVERIES: [(&str, u64); 13] = [
+    ("an altered plan", 50),
+    ("too few words of DE and RO", 10),
+    ("a state of another length", 10),
+    ("a chip that is too long", 10),
+    ("an altered chip", 50),
+    ("words with a rest", 400),
+    ("more words than need be", 400),
+    ("a null chip", 2),
+    ("recoveries of no save", 100),
+    ("recoveries of saves", 100),
+    ("recoveries with bytes to erase", 100),
+    ("recoveries with a last EXCLUDE", 50),
+    ("chips over 3,000 bytes", 2),
+];
+
+/// The same for what else runs must meet.
+const OF_RUNS: [(&str, u64); 26] = [
+    ("an altered plan", 50),
+    ("too few words of DE and RO", 10),
+    ("a chip that is too long", 10),
+    ("words with a rest", 400),
+    ("readings with a rest", 400),
+    ("outputs with a rest", 400),
+    ("null readings", 5),
+    ("null outputs", 5),
+    ("stopped, ended", 50),
+    ("stopped, divisor", 10),
+    ("stopped, count full", 10),
+    ("budget spent", 100),
+    ("no reading left", 50),
+    ("output buffer full", 50),
+    ("runs again with larger budgets", 100),
+    ("runs that save at first", 50),
+    ("runs that save at last", 30),
+    ("runs that store over 100 bytes", 5),
+    ("runs that erase", 20),
+    ("runs of over 10,000 steps", 5),
+    ("over 1,024 readings taken", 5),
+    ("over 1,024 outputs given", 5),
+    ("over 1,024 of both", 3),
+    ("readings taken to a stretch's end", 1),
+    ("outputs given to a stretch's end", 1),
+    ("a count full after a stretch", 1),
+];
+
+fn calls(of_the_gate: u64) -> u64 {
+    env::var("PITSKELO_CALLS").map_or(of_the_gate, |number| number.parse().unwrap())
+}
+
+/// Asserts that library and reference agree on the call, and gives the result and what is left.
+fn agreed(seed: u64, call: &Call) -> Answer {
+    agree(&Library, call)
+        .unwrap_or_else(|difference| panic!("seed {seed}, {difference}\n{call:02X?}"))
+}
+
+/// Makes the calls of the seeds from 0 on, counts what they met, and asserts that half of them are hostile and that each
+/// refusal up to the last, and what the floors say, is met often enough.
+fn make_calls(entry: Entry, calls: u64, last_refusal: usize, floors: &[(&str, u64)]) {
+    let mut met = Met::default();
+    for seed in 0..calls {
+        let Seeded { call, faults } = seeded(entry, seed);
+        let (result, left) = agreed(seed, &call);
+        met.count("calls");
+        met.count(RESULTS[result as usize]);
+        count_faults(&mut met, seed, &faults, result);
+        match entry {
+            Entry::Check | Entry::Analyse => {}
+            Entry::Recover => count_recovery(&mut met, &call, result, &left),
+            Entry::Run => count_run(&mut met, seed, &call, result, &left),
+        }
+    }
+    print!("{met}");
+    met.assert_floors_per("calls", &[("hostile calls", 500), ("accepted", 500)]);
+    for refusal in &RESULTS[1..=last_refusal] {
+        met.assert_floors_per("calls", &[(refusal, EACH_REFUSAL)]);
+    }
+    met.assert_floors_per("calls", floors);
+}
+
+/// Counts a call's only fault, which of a state must have been found. A call without a fault must be accepted.
+fn count_faults(met: &mut Met, seed: u64, faults: &[&'static str], result: u32) {
+    if faults.is_empty() {
+        assert_eq!(result, 0, "seed {seed} has no fault");
+        return;
+    }
+    met.count("hostile calls");
+    if let [fault] = *faults {
+        met.count(fault);
+        // The last of them may leave a sound state.
+        let of_state = &FAULTS[..FAULTS.len() - 1];
+        if of_state.iter().any(|(name, _)| *name == fault) {
+            assert_eq!(result, 10, "seed {seed}: {fault}");
+        }
+    }
+}
+
+fn count_all(met: &mut Met, met_here: &[(&'static str, bool)]) {
+    for (name, is_met) in met_here {
+        met.add(name, u64::from(*is_met));
+    }
+}
+
+fn count_words(met: &mut Met, call: &Call) {
+    let named = [
+        ("words with a rest", !call.sets.len().is_multiple_of(8)),
+        ("more words than need be", call.sets.words() > SET_WORDS),
+        ("a null chip", call.nulls && call.chip.is_empty()),
+        ("a null state", call.nulls && call.state.is_empty()),
+    ];
+    count_all(met, &named);
+}
+
+fn count_recovery(met: &mut Met, call: &Call, result: u32, left: &Call) {
+    count_words(met, call);
+    if result != 0 {
+        return;
+    }
+    let state = State::from_bytes(left.state.lent()).expect("recovery leaves a state");
+    let named = [
+        ("recoveries of no save", state.write == 0),
+        ("recoveries of saves", state.write > 0),
+        ("recoveries with bytes to erase", state.erase > 0),
+        ("recoveries with a last EXCLUDE", state.exclude > 0),
+        ("chips over 3,000 bytes", left.chip.len() > 3_000),
+        ("chips of 65,536 bytes", left.chip.len() == MAX_CHIP),
+    ];
+    count_all(met, &named);
+}
+
+fn count_run(met: &mut Met, seed: u64, call: &Call, result: u32, left: &Call) {
+    count_words(met, call);
+    let named = [
+        (
+            "readings with a rest",
+            !call.readings.len().is_multiple_of(4),
+        ),
+        ("outputs with a rest", !call.outputs.len().is_multiple_of(4)),
+        ("null readings", call.nulls && call.readings.is_empty()),
+        ("null outputs", call.nulls && call.outputs.is_empty()),
+    ];
+    count_all(met, &named);
+    if result != 0 {
+        return;
+    }
+    met.count(ENDS[left.ran().ended as usize]);
+    count_work(met, call, left);
+    count_stretches(met, left);
+    // A run that its budget did not end is the same with any larger one.
+    if left.ran().ended != 4 {
+        met.count("runs again with larger budgets");
+        for budget in [1 << 32, u64::MAX] {
+            let again = Call {
+                budget,
+                ..call.clone()
+            };
+            let (result, left_again) = agreed(seed, &again);
+            assert_eq!((result, left_again.ran()), (0, left.ran()), "seed {seed}");
+        }
+    }
+}
+
+fn count_work(met: &mut Met, call: &Call, left: &Call) {
+    let [before, after] = [call, left]
+        .map(|call| State::from_bytes(call.state.lent()).expect("an accepted run's state is one"));
+    let stored = after.write - before.write;
+    let named = [
+        ("runs that save at first", before.saving.is_some()),
+        ("runs that save at last", after.saving.is_some()),
+        ("runs that store over 100 bytes", stored > 100),
+        ("runs that erase", after.erase < before.erase),
+        ("runs of over 10,000 steps", left.ran().steps > 10_000),
+    ];
+    count_all(met, &named);
+}
+
+fn count_stretches(met: &mut Met, left: &Call) {
+    let ran = left.ran();
+    let (taken, given) = (ran.taken, ran.given);
+    let is_whole = |number: u64| number > 0 && number.is_multiple_of(STRETCH);
+    let is_full = ran.ended == 3 && taken.max(given) >= STRETCH;
+    let named = [
+        ("over 1,024 readings taken", taken > STRETCH),
+        ("over 1,024 outputs given", given > STRETCH),
+        ("over 1,024 of both", taken.min(given) > STRETCH),
+        ("readings taken to a stretch's end", is_whole(taken)),
+        ("outputs given to a stretch's end", is_whole(given)),
+        ("a count full after a stretch", is_full),
+    ];
+    count_all(met, &named);
+}
+
+#[test]
+fn checks() {
+    make_calls(Entry::Check, calls(200_000), 8, &[]);
+}
+
+#[test]
+fn analyses() {
+    make_calls(Entry::Analyse, calls(25_000), 9, &[]);
+}
+
+#[test]
+fn recoveries() {
+    make_calls(Entry::Recover, calls(200_000), 12, &OF_RECOVERIES);
+}
+
+#[test]
+fn runs() {
+    let mut floors = OF_RUNS.to_vec();
+    floors.extend(FAULTS.map(|(name, _)| (name, 3)));
+    make_calls(Entry::Run, calls(200_000), 11, &floors);
+}
+
+/// Where an answer is made wrong: in the result, in a number, or in a byte of a buffer or around it.
+#[derive(Clone, Copy, Debug)]
+enum Spot {
+    Result,
+    Number(usize),
+    Byte(usize, usize),
+}
+
+impl Spot {
+    /// Every spot of an answer.
+    fn all(answer: &Answer) -> Vec<Spot> {
+        let mut spots = vec![Spot::Result];
+        spots.extend((0..4).map(Spot::Number));
+        for (buffer, bytes) in answer.1.clone().buffers_mut().into_iter().enumerate() {
+            spots.extend((0..bytes.all().len()).map(|at| Spot::Byte(buffer, at)));
+        }
+        spots
+    }
+
+    /// Alters one bit there.
+    fn spoil(self, answer: &mut Answer) {
+        match self {
+            Spot::Result => answer.0 ^= 1,
+            Spot::Number(number) => answer.1.numbers[number] ^= 1 << 40,
+            Spot::Byte(buffer, at) => answer.1.buffers_mut()[buffer].all()[at] ^= 1,
+        }
+    }
+
+    /// What the difference must name.
+    fn name(self, answer: &Answer) -> &'static str {
+        match self {
+            Spot::Result => "the result",
+            Spot::Number(_) => "the numbers",
+            Spot::Byte(buffer, _) => answer.1.buffers()[buffer].0,
+        }
+    }
+}
+
+/// The calls above fail on any wrong byte: in each spot of some answers a bit is altered, and the difference is found.
+#[test]
+fn a_wrong_bit_anywhere_is_found() {
+    for entry in [Entry::Check, Entry::Analyse, Entry::Recover, Entry::Run] {
+        // Calls without a fault and hostile ones.
+        for seed in 0..4 {
+            let call = seeded(entry, seed).call;
+            let expected = answered(&Reference, &call);
+            let found = answered(&Library, &call);
+            assert_eq!(difference(&found, &expected), None);
+            for spot in Spot::all(&found) {
+                let mut wrong = found.clone();
+                spot.spoil(&mut wrong);
+                let difference = difference(&wrong, &expected).unwrap_or_default();
+                let name = spot.name(&found);
+                assert!(difference.contains(name), "{entry:?} {seed} {spot:?}");
+            }
+        }
+    }
+}

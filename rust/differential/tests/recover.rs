@@ -1,0 +1,256 @@
+//! The library's recovery through C on chosen calls, held to the reference: on the result and on every byte of every
+//! buffer. Where document 01 says the answer outright, it is stated here as well.
+
+use differential::buffer::Buffer;
+use differential::call::{agreed, sets_of, word_bytes, Call, Entry, Library, SET_WORDS};
+use differential::examples::SMALL;
+use differential::journals::{filled, plans};
+use differential::plans::refused_examples;
+use differential::rng::Rng;
+use reference::journal::{ERASED, MAX_CHIP};
+use reference::layout::STATE_BYTES;
+use reference::machine::{Mark, State};
+
+/// The small plan's first two saves, with readings 5 and 7.
+const SAVES: [u8; 40] = [
+    0xA1, 0x00, 0x05, 0x00, 0x00, 0x00, 0xA2, 0x11, 0x00, 0x0F, 0x00, 0x01, 0x00, 0x00, 0x00, 0x01,
+    0x00, 0x00, 0x00, 0x5A, 0xA1, 0x00, 0x0C, 0x00, 0x00, 0x00, 0xA2, 0x11, 0x00, 0x0F, 0x00, 0x02,
+    0x00, 0x00, 0x00, 0x02, 0x00, 0x00, 0x00, 0x5A,
+];
+
+/// The state that an accepted call leaves.
+#[track_caller]
+fn recovered(call: &Call) -> State {
+    let (result, left) = agreed(&Library, call);
+    assert_eq!(result, 0);
+    State::from_bytes(left.state.lent()).expect("recovery leaves a state")
+}
+
+#[track_caller]
+fn refused(call: &Call, number: u32) {
+    assert_eq!(agreed(&Library, call).0, number);
+}
+
+/// A recovery of the small plan.
+fn small(chip: &[u8]) -> Call {
+    Call::recover(SMALL, &sets_of(SMALL), chip, &[0xA5; STATE_BYTES])
+}
+
+/// The first bytes of the small plan's saves, then FF up to 60.
+fn stored(bytes: usize) -> Vec<u8> {
+    let mut chip = SAVES[..bytes].to_vec();
+    chip.resize(60, ERASED);
+    chip
+}
+
+#[test]
+fn an_erased_chip_gives_the_first_state() {
+    for length in [0, 1, 60, MAX_CHIP] {
+        assert_eq!(recovered(&small(&vec![ERASED; length])), State::first());
+    }
+}
+
+#[test]
+fn cut_after_33_bytes_cell_0_is_5_and_both_counts_are_1() {
+    let state = recovered(&small(&stored(33)));
+    assert_eq!((state.cells[0], state.readings, state.outputs), (5, 1, 1));
+    assert_eq!((state.place, state.exclude), (17, 15));
+    assert_eq!((state.write, state.erase), (20, 13));
+    assert_eq!(
+        state.marks[..4],
+        [Mark::Include, Mark::Dead, Mark::Dead, Mark::Include]
+    );
+}
+
+#[test]
+fn a_save_counts_from_its_last_byte_on() {
+    for bytes in 0..=SAVES.len() {
+        let state = recovered(&small(&stored(bytes)));
+        let whole = bytes / 20;
+        assert_eq!(state.cells[0], [0, 5, 12][whole]);
+        assert_eq!(state.write as usize, 20 * whole);
+        assert_eq!(state.erase as usize, bytes - 20 * whole);
+    }
+}
+
+/// How many of the 256 bytes recovery accepts in each place of the two saves. A cell is one of three, a value any, an
+/// EXCLUDE the plan's or none. A count of the first mark is at most 2, one of the second at least 1. FF in place of the
+/// last 5A leaves a torn save.
+const ACCEPTED: [usize; 40] = [
+    1, 3, 256, 256, 256, 256, 1, 1, 1, 2, 1, 3, 1, 1, 1, 3, 1, 1, 1, 1, //
+    1, 3, 256, 256, 256, 256, 1, 1, 1, 2, 1, 255, 256, 256, 256, 255, 256, 256, 256, 2,
+];
+
+#[test]
+fn every_byte_in_every_place_of_two_saves() {
+    for (at, accepted) in ACCEPTED.into_iter().enumerate() {
+        let result = |byte: u8| {
+            let mut chip = stored(40);
+            chip[at] = byte;
+            agreed(&Library, &small(&chip)).0
+        };
+        let results: Vec<u32> = (0..=255).map(result).collect();
+        let count = |number: u32| results.iter().filter(|found| **found == number).count();
+        assert_eq!((count(0), count(12)), (accepted, 256 - accepted), "at {at}");
+    }
+}
+
+#[test]
+fn the_examples_of_the_table_of_refusals() {
+    for (number, plan) in (1..).zip(refused_examples()) {
+        let plan = Buffer::plain(&plan);
+        refused(&Call { plan, ..small(&[]) }, number);
+    }
+    let sets = Buffer::plain(&word_bytes(&sets_of(SMALL)[..511]));
+    refused(&Call { sets, ..small(&[]) }, 9);
+    refused(&small(&[ERASED; MAX_CHIP + 1]), 11);
+    refused(&small(&[0x00, ERASED]), 12);
+}
+
+#[test]
+fn of_several_refusals_the_lowest_is_given() {
+    // What gives 9, 10, 11 and 12 stands in all of them, so each number is given before those above it.
+    let all = Call {
+        sets: Buffer::plain(&[0; 8 * SET_WORDS - 1]),
+        state: Buffer::plain(&[0; STATE_BYTES + 1]),
+        ..small(&[0x00; MAX_CHIP + 1])
+    };
+    for (number, plan) in (1..).zip(refused_examples()) {
+        let plan = Buffer::plain(&plan);
+        refused(
+            &Call {
+                plan,
+                ..all.clone()
+            },
+            number,
+        );
+    }
+    refused(&all, 9);
+    let sets = small(&[]).sets;
+    refused(
+        &Call {
+            sets,
+            ..all.clone()
+        },
+        10,
+    );
+    let (sets, state) = (small(&[]).sets, small(&[]).state);
+    let call = Call { sets, state, ..all };
+    refused(&call, 11);
+    let chip = Buffer::plain(&[0x00; MAX_CHIP]);
+    refused(&Call { chip, ..call }, 12);
+}
+
+#[test]
+fn of_a_state_only_the_length_is_tested() {
+    for length in 0..=2 * STATE_BYTES + 1 {
+        let state = Buffer::plain(&vec![0xFF; length]);
+        let call = Call {
+            state,
+            ..small(&stored(33))
+        };
+        refused(&call, if length == STATE_BYTES { 0 } else { 10 });
+    }
+    let mut rng = Rng::new(0x5EC0_0000_0000_0001);
+    let expected = recovered(&small(&stored(33)));
+    for _ in 0..50 {
+        let state = Buffer::new(STATE_BYTES, 0, || rng.byte());
+        let call = Call {
+            state,
+            ..small(&stored(33))
+        };
+        assert_eq!(recovered(&call), expected);
+    }
+}
+
+#[test]
+fn bits_of_missing_cells_count_as_0_and_later_words_as_nothing() {
+    let expected = recovered(&small(&stored(40)));
+    let mut words = sets_of(SMALL);
+    for word in words.iter_mut().take(8) {
+        *word |= !0b111;
+    }
+    words[1..4].fill(u64::MAX);
+    words[5..].fill(u64::MAX);
+    for rest in 0..17 {
+        let mut bytes = word_bytes(&words);
+        bytes.resize(bytes.len() + rest, 0x11);
+        let call = Call {
+            sets: Buffer::plain(&bytes),
+            ..small(&stored(40))
+        };
+        assert_eq!(recovered(&call), expected);
+    }
+}
+
+#[test]
+fn marks_by_the_last_exclude_alone() {
+    // EXCLUDE, CHECKPOINT, EXCLUDE, CHECKPOINT, END with four cells.
+    let plan = [0x03, 0x0D, 0x0E, 0x0D, 0x0E, 0x01];
+    let mut words = [0; SET_WORDS];
+    words[..4].fill(u64::MAX);
+    // By the second: cell 0 in neither, 1 in RO, 2 in DE, 3 in both.
+    (words[8], words[12]) = (0b1100, 0b1010);
+    let save = |exclude: u8| [0xA2, 0x05, 0, exclude, 0, 0, 0, 0, 0, 0, 0, 0, 0, 0x5A];
+    let marks = |chip: &[u8]| {
+        let call = Call::recover(&plan, &words, chip, &[0xA5; STATE_BYTES]);
+        recovered(&call).marks[..5].to_vec()
+    };
+    use Mark::*;
+    assert_eq!(marks(&save(0)), [Include; 5]);
+    assert_eq!(marks(&save(1)), [Dead, Dead, Dead, Dead, Include]);
+    let mixed = [Include, Kept, Dead, Dead, Include];
+    assert_eq!(marks(&[save(1), save(3)].concat()), mixed);
+}
+
+#[test]
+fn full_chips() {
+    let mut rng = Rng::new(0x5EC0_0000_0000_0002);
+    for plan in plans() {
+        let chip = filled(&mut rng, &plan, MAX_CHIP);
+        let call = Call::recover(&plan, &[u64::MAX; SET_WORDS], &chip, &[0; STATE_BYTES]);
+        let state = recovered(&call);
+        assert!(state.write > 60_000, "{}", state.write);
+    }
+}
+
+#[test]
+fn buffers_at_any_address() {
+    let call = small(&stored(33));
+    for shift in 0..8 {
+        // No two buffers have the same shift.
+        let at = |buffer: &Buffer, more: usize| buffer.shifted((shift + more) % 8);
+        let state = recovered(&Call {
+            plan: at(&call.plan, 0),
+            sets: at(&call.sets, 1),
+            chip: at(&call.chip, 2),
+            state: at(&call.state, 3),
+            ..call.clone()
+        });
+        assert_eq!(state.cells[0], 5);
+    }
+}
+
+#[test]
+fn null_pointers() {
+    let nothing = Call {
+        nulls: true,
+        ..Call::new(Entry::Recover)
+    };
+    refused(&nothing, 1);
+    let with_plan = Call {
+        plan: small(&[]).plan,
+        ..nothing
+    };
+    refused(&with_plan, 9);
+    let with_sets = Call {
+        sets: small(&[]).sets,
+        ..with_plan
+    };
+    refused(&with_sets, 10);
+    let with_state = Call {
+        state: small(&[]).state,
+        ..with_sets
+    };
+    assert_eq!(recovered(&with_state), State::first());
+}
