@@ -1,89 +1,127 @@
--- The set of cells to store, on plain numbers: one bit of it, a word made from its highest bit down, and the set from its four words.
+-- The set of cells to store, on plain numbers: one bit of it, more bits from fewer, a word made from its highest eight bits down, and the set from
+-- its four words, cut at n.
 -- Assumes nothing.
-use mathlib.Core.Path.{_≡_, refl, ap, _∙_}
+use mathlib.Core.Path.{_≡_, refl, sym, ap, _∙_}
+use mathlib.Core.Logic.{⊎-elim}
 use mathlib.Core.List.{List, [], _∷_}
 use mathlib.Core.Bool.{Bool, true, false, cond, _&&_}
-use Prim.Native.Nat.{ℕ, zero, suc, _+_, _-_, _*_, _/_, _%_, _^_, _≤_, _<_}
-use native.Mathlib.Nat.{pow-suc, lt-of-lt-of-le}
+use Prim.Native.Nat.{ℕ, zero, suc, _+_, _-_, _*_, _/_, _%_, _^_, _≤_, _<_, min, zero-le}
+use native.Mathlib.Nat.{lt-of-lt-of-le, mul-le-mul-right, suc-mul}
 use native.Mathlib.Omega.{arith}
+use lib.Bits.{block-half, block-odd}
 use lib.Dec.{ltb}
-use lib.Pow.{pow-pos, pow-mono}
+use lib.Pow.{pow-pos, pow-mono, pow-add, shr-shr, high}
 use lib.ListN.{getD}
-use borrow.Author.Tests.{lt-ltb, le-ltb}
+use borrow.Author.Tests.{lt-ltb, le-leb}
 use mir.Val.{boolByte}
-use Rattle.cellset.specs.Bits.{bit}
+use Rattle.cellset.specs.Bits.{bit, within}
 use Rattle.cellset.specs.Sets.{SetIs}
-use Rattle.cellset.proofs.Bits.{bit-zero, bit-suc}
+use Rattle.cellset.proofs.Bits.{bit-zero, bit-suc, le-or-lt}
 use Rattle.marks.specs.Marks.{markOf, isStored, toStore}
 use Rattle.marks.specs.declared.Mark.{Mark}
 
--- from n on no cell is stored
-pub store-out : (n : ℕ) (ms : List ℕ) (c : ℕ) → n ≤ c → 0 ≡ toStore n ms c
-store-out n ms c h = rw (le-ltb c n h)
-
--- below n the mark decides
-pub store-in : (n : ℕ) (ms : List ℕ) (c : ℕ) {m : Mark} {b : Bool} → c < n → m ≡ markOf (getD ms c 0) → b ≡ isStored m → boolByte b ≡ toStore n ms c
-store-in n ms c h m b = rw (b, m, lt-ltb c n h) (one (isStored (markOf (getD ms c 0))))
+-- of all 256 cells the mark decides
+pub store-in : (ms : List ℕ) (c : ℕ) {m : Mark} {b : Bool} → c < 256 → m ≡ markOf (getD ms c 0) → b ≡ isStored m
+    → (boolByte b < 2) × (boolByte b ≡ toStore 256 ms c)
+store-in ms c h m b = rw (b, m, lt-ltb c 256 h) (one (isStored (markOf (getD ms c 0))))
   where
-    one : (b : Bool) → boolByte b ≡ cond b 1 0
-    one true = refl
-    one false = refl
+    one : (b : Bool) → (boolByte b < 2) × (boolByte b ≡ cond b 1 0)
+    one true = (omega arith, refl)
+    one false = (omega arith, refl)
 
--- either way it is one bit
-pub store-small : (n : ℕ) (ms : List ℕ) (c : ℕ) → toStore n ms c < 2
-store-small n ms c = one (ltb c n && isStored (markOf (getD ms c 0)))
+-- those of the 256 that lie below n are those of n
+pub store-cut : (n : ℕ) (ms : List ℕ) (c : ℕ) → c < 256 → min (toStore 256 ms c) (within 0 n c) ≡ toStore n ms c
+store-cut n ms c h = rw (lt-ltb c 256 h, le-leb 0 c zero-le) (both (isStored (markOf (getD ms c 0))) (ltb c n))
   where
-    one : (b : Bool) → cond b 1 0 < 2
-    one true = omega arith
-    one false = omega arith
+    both : (s b : Bool) → min (cond s 1 0) (cond b 1 0) ≡ cond (b && s) 1 0
+    both true true = refl
+    both true false = refl
+    both false true = refl
+    both false false = refl
 
--- w holds the bits that f gives from k to 63
-pub record Made (f : ℕ → ℕ) (w k : ℕ) : Type 0 where
-  pub small : (i : ℕ) → f i < 2
+-- ---- bits from fewer bits
+
+-- w has m bits, those that f gives from c on
+abbrev pub Made : (ℕ → ℕ) → (c m w : ℕ) → Type 0
+Made f c m w = (w < 2 ^ m) × ((k : ℕ) → k < m → bit w k ≡ f (c + k))
+
+-- a bit by itself
+pub made-one : (f : ℕ → ℕ) (c : ℕ) {b : ℕ} → (b < 2) × (b ≡ f c) → Made f c 1 b
+made-one f c {b} (h, e) = (h, one)
+  where
+    one : (k : ℕ) → k < 1 → bit b k ≡ f (c + k)
+    one zero l =
+        let last : b % 2 ≡ b = omega arith in
+        bit-zero b ∙ last ∙ e ∙ ap f (omega arith)
+    one (suc k) l = absurd (omega arith)
+
+-- the m low bits of a sum are those of its low part
+bit-low : (m lo hi k : ℕ) → k < m → bit (hi * 2 ^ m + lo) k ≡ bit lo k
+bit-low zero lo hi k l = absurd (omega arith)
+bit-low (suc m) lo hi zero l = bit-zero (hi * 2 ^ suc m + lo) ∙ block-odd hi m lo ∙ sym (bit-zero lo)
+bit-low (suc m) lo hi (suc k) l =
+    bit-suc (hi * 2 ^ suc m + lo) k ∙ ap (λ (x : ℕ). bit x k) (block-half hi m lo) ∙ bit-low m (lo / 2) hi k (omega arith) ∙ sym (bit-suc lo k)
+
+-- the others are those of its high part
+bit-high : (m lo hi k : ℕ) → lo < 2 ^ m → bit (hi * 2 ^ m + lo) (m + k) ≡ bit hi k
+unfolding bit
+bit-high m lo hi k h = ap (λ (x : ℕ). x % 2) (sym (shr-shr (hi * 2 ^ m + lo) m k) ∙ ap (λ (x : ℕ). x / 2 ^ k) (high hi m h))
+
+-- so n bits above m bits are m + n
+module _ (f : ℕ → ℕ) (c m n : ℕ) {lo hi : ℕ} (l : Made f c m lo) (h : Made f (c + m) n hi) where
+  join-bits : (k : ℕ) → k < m + n → bit (lo + hi * 2 ^ m) k ≡ f (c + k)
+  join-bits k lt =
+      let swap : lo + hi * 2 ^ m ≡ hi * 2 ^ m + lo = omega arith in
+      ap (λ (x : ℕ). bit x k) swap
+      ∙ ⊎-elim
+      (λ (p : m ≤ k).
+      let up : k ≡ m + (k - m) = omega arith in
+      ap (bit (hi * 2 ^ m + lo)) up ∙ bit-high m lo hi (k - m) (l .0) ∙ h .1 (k - m) (omega arith) ∙ ap f (omega arith))
+      (λ (p : k < m). bit-low m lo hi k p ∙ l .1 k p)
+      (le-or-lt m k)
+
+  pub made-join : Made f c (m + n) (lo + hi * 2 ^ m)
+  made-join = (rw (pow-add 2 m n) (omega (arith, l .0, mul-le-mul-right (2 ^ m) (h .0), suc-mul hi (2 ^ m))), join-bits)
+
+-- ---- the loop of `stored_word`
+
+-- w holds the bits from k to 63 of the word whose first cell is `first`
+pub record Filled (f : ℕ → ℕ) (first w k : ℕ) : Type 0 where
   pub low : k ≤ 64
-  pub fits : w < 2 ^ (64 - k)
-  pub bits : (j : ℕ) → k + j < 64 → bit w j ≡ f (k + j)
+  pub eights : k % 8 ≡ 0
+  pub made : Made f (first + k) (64 - k) w
 
 -- no bit yet
-pub made-first : (f : ℕ → ℕ) → ((i : ℕ) → f i < 2) → Made f 0 64
-made-first f small = record { small = small; low = omega arith; fits = omega arith; bits = λ j l. absurd (omega arith) }
+pub filled-first : (f : ℕ → ℕ) (first : ℕ) → Filled f first 0 64
+filled-first f first = record { low = omega arith; eights = refl; made = (omega arith, (λ k l. absurd (omega arith))) }
 
-module _ {f : ℕ → ℕ} {w k : ℕ} (m : Made f w k) where
-  -- the new bit is the lowest, and the others move up
-  made-bits : (b : ℕ) → 0 < k → b < 2 → b ≡ f (k - 1) → (j : ℕ) → k - 1 + j < 64 → bit (2 * w + b) j ≡ f (k - 1 + j)
-  made-bits b h l e zero n =
-      let last : (2 * w + b) % 2 ≡ b = omega arith in
-      bit-zero (2 * w + b) ∙ last ∙ e ∙ ap f (omega arith)
-  made-bits b h l e (suc j) n =
-      let half : (2 * w + b) / 2 ≡ w = omega arith in
-      bit-suc (2 * w + b) j ∙ ap (λ (x : ℕ). bit x j) half ∙ m .bits j (omega arith) ∙ ap f (omega arith)
+module _ {f : ℕ → ℕ} {first w k : ℕ} (q : Filled f first w k) where
+  -- where bits are left, eight are
+  pub filled-left : 0 < k → 8 ≤ k
+  filled-left h = omega (arith, q .eights)
 
-  -- so one bit more is made
-  pub made-turn : {b : ℕ} → 0 < k → b ≡ f (k - 1) → Made f (2 * w + b) (k - 1)
-  made-turn {b} h e =
-      let up : 64 - (k - 1) ≡ suc (64 - k) = omega (arith, m .low) in
-      let l : b < 2 = omega (arith, e, m .small (k - 1)) in
-      record {
-        small = m .small;
-        low = omega (arith, m .low);
-        fits = rw (up, pow-suc 2 (64 - k)) (omega (arith, m .fits));
-        bits = made-bits b h l e;
-      }
+  module _ {e : ℕ} (h : 0 < k) (m : Made f (first + (k - 8)) 8 e) where
+    -- so eight bits more are made
+    pub filled-turn : Filled f first (e + w * 256) (k - 8)
+    filled-turn =
+        let up : 64 - (k - 8) ≡ 8 + (64 - k) = omega (arith, q .low, filled-left h) in
+        let at : first + k ≡ first + (k - 8) + 8 = omega (arith, filled-left h) in
+        record {
+          low = omega (arith, q .low);
+          eights = omega (arith, q .eights, filled-left h);
+          made = rw up (made-join f (first + (k - 8)) 8 (64 - k) m (rw at at (q .made)));
+        }
 
-  -- what a turn makes is a word still
-  pub made-room : {b : ℕ} → 0 < k → b ≡ f (k - 1) → 2 * w + b < 2 ^ 64
-  made-room h e = lt-of-lt-of-le (made-turn h e .fits) (pow-mono {j = 64} (omega arith))
+    -- and what is made is a word still
+    pub filled-room : e + w * 256 < 2 ^ 64
+    filled-room = lt-of-lt-of-le (filled-turn .made .0) (pow-mono {j = 64} (omega arith))
 
   -- at the end all 64 are there
-  pub made-done : k ≤ 0 → (j : ℕ) → j < 64 → bit w j ≡ f j
-  made-done h j l = m .bits j (omega arith) ∙ ap f (omega arith)
+  pub filled-done : k ≤ 0 → (j : ℕ) → j < 64 → bit w j ≡ f (first + j)
+  filled-done h j l = q .made .1 j (omega arith) ∙ ap f (omega arith)
 
--- x is the word of the set of the cells at which f is 1 whose first cell is `first`
-abbrev Word : (ℕ → ℕ) → (first x : ℕ) → Type 0
-Word f first x = (x < 2 ^ 64) × ((k : ℕ) → k < 64 → bit x k ≡ f (first + k))
-
--- a set from its four words
-module _ (f : ℕ → ℕ) {p q r s : ℕ} (w₀ : Word f 0 p) (w₁ : Word f 64 q) (w₂ : Word f 128 r) (w₃ : Word f 192 s) where
+-- ---- a set from its four words
+module _ (f : ℕ → ℕ) {p q r s : ℕ} (w₀ : Made f 0 64 p) (w₁ : Made f 64 64 q) (w₂ : Made f 128 64 r) (w₃ : Made f 192 64 s) where
   word : (i : ℕ) → (getD (p ∷ q ∷ r ∷ s ∷ []) i 0 < 2 ^ 64) × (i < 4 → (k : ℕ) → k < 64 → bit (getD (p ∷ q ∷ r ∷ s ∷ []) i 0) k ≡ f (64 * i + k))
   word zero = (w₀ .0, (λ l. w₀ .1))
   word (suc zero) = (w₁ .0, (λ l. w₁ .1))

@@ -2,7 +2,7 @@
 // that a save holds. Each function is equated with specs/Marks.antt, document 01's sentences about marks.
 use cellset::CellSet;
 ghost use mathlib.Core.Path.{_≡_};
-ghost use Prim.Native.Nat.{ℕ, _+_, _<_, _≤_};
+ghost use Prim.Native.Nat.{ℕ, _+_, _^_, _<_, _≤_};
 ghost use lib.ListN.{length};
 ghost use Rattle.cellset.specs.Bits.{bit};
 ghost use Rattle.cellset.specs.Sets.{SetIs};
@@ -139,41 +139,58 @@ pub fn keep(marks: &mut [u8; 256], n: usize)
     }
 }
 
-// 1 where cell c is one of n cells and a save holds it.
-fn stored_bit(marks: &[u8; 256], n: usize, c: usize) -> u64
+// 1 where a save of all 256 cells holds cell c.
+fn stored_bit(marks: &[u8; 256], c: usize) -> u64
     requires { ⌜ c < 256 ⌝ }
-    ensures { λ r. ⌜ r ≡ toStore n (now (marks .entry)) c ⌝ }
+    ensures { λ r. ⌜ (r < 2) × (r ≡ toStore 256 (now (marks .entry)) c) ⌝ }
 {
-    if n <= c {
-        return 0;
-    }
     is_stored(from_byte(marks[c])) as u64
 }
 
-// The word of the set of cells to store whose first cell is `first`, made from its highest bit down.
-fn stored_word(marks: &[u8; 256], n: usize, first: usize) -> u64
+// The bits of four cells from c on.
+fn stored_four(marks: &[u8; 256], c: usize) -> u64
+    requires { ⌜ c ≤ 252 ⌝ }
+    ensures { λ r. ⌜ (r < 2 ^ 4) × ((k : ℕ) → k < 4 → bit r k ≡ toStore 256 (now (marks .entry)) (c + k)) ⌝ }
+{
+    stored_bit(marks, c)
+        + stored_bit(marks, c + 1) * 2
+        + stored_bit(marks, c + 2) * 4
+        + stored_bit(marks, c + 3) * 8
+}
+
+// The bits of eight cells from c on, none of which waits for another.
+fn stored_eight(marks: &[u8; 256], c: usize) -> u64
+    requires { ⌜ c ≤ 248 ⌝ }
+    ensures { λ r. ⌜ (r < 2 ^ 8) × ((k : ℕ) → k < 8 → bit r k ≡ toStore 256 (now (marks .entry)) (c + k)) ⌝ }
+{
+    stored_four(marks, c) + stored_four(marks, c + 4) * 16
+}
+
+// The word of the set of cells to store of all 256 whose first cell is `first`, made from its highest eight bits down.
+fn stored_word(marks: &[u8; 256], first: usize) -> u64
     requires { ⌜ first ≤ 192 ⌝ }
-    ensures { λ r. ⌜ ((k : ℕ) → k < 64 → bit r k ≡ toStore n (now (marks .entry)) (first + k)) ⌝ }
+    ensures { λ r. ⌜ ((k : ℕ) → k < 64 → bit r k ≡ toStore 256 (now (marks .entry)) (first + k)) ⌝ }
 {
     let mut w: u64 = 0;
     let mut k: usize = 64;
     while 0 < k {
-        k -= 1;
-        w = 2 * w + stored_bit(marks, n, first + k);
+        k -= 8;
+        w = stored_eight(marks, first + k) + w * 256;
     }
     w
 }
 
-// The cells that a save of n cells holds.
+// The cells that a save of n cells holds; n cuts the whole words, so that no mark is tested against it.
 pub fn stored_cells(marks: &[u8; 256], n: usize) -> CellSet
     ensures { λ r. ⌜ SetIs (r .words) (toStore n (now (marks .entry))) ⌝ }
 {
-    CellSet {
+    let all = CellSet {
         words: [
-            stored_word(marks, n, 0),
-            stored_word(marks, n, 64),
-            stored_word(marks, n, 128),
-            stored_word(marks, n, 192),
+            stored_word(marks, 0),
+            stored_word(marks, 64),
+            stored_word(marks, 128),
+            stored_word(marks, 192),
         ],
-    }
+    };
+    cellset::intersection(all, cellset::below(n as u64))
 }
