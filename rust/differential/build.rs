@@ -1,5 +1,4 @@
-//! Links the verified library and the probe of its chip reader, and tells the tests where the library's
-//! archive lies.
+//! Links the verified library, and tells the tests where its archive lies.
 
 use std::env;
 use std::path::{Path, PathBuf};
@@ -12,23 +11,16 @@ fn main() {
         None => Path::new(&crate_dir).join("../../target/staticlib"),
     };
     println!("cargo:rerun-if-env-changed=PITSKELO_LIB_DIR");
-    let archive = link(&lib_dir, "pitskelo");
-    link(&lib_dir, "probe");
-    println!("cargo:rustc-env=PITSKELO_ARCHIVE={}", archive.display());
-}
-
-/// Links a library of the folder, and gives the path of its archive.
-fn link(lib_dir: &Path, name: &str) -> PathBuf {
-    let archive = lib_dir.join(format!("lib{name}.a"));
+    let archive = lib_dir.join("libpitskelo.a");
     println!("cargo:rerun-if-changed={}", archive.display());
     let Ok(archive) = archive.canonicalize() else {
         eprintln!("error: the library {} is missing.", archive.display());
-        eprintln!("Make it with `rt staticlib {name}` in the repository's root,");
+        eprintln!("Make it with `rt staticlib pitskelo` in the repository's root,");
         eprintln!("or name the folder that holds it in PITSKELO_LIB_DIR (an absolute path).");
         exit(1);
     };
     let lib_dir = archive.parent().expect("a file lies in a folder");
     println!("cargo:rustc-link-search=native={}", lib_dir.display());
-    println!("cargo:rustc-link-lib=static={name}");
-    archive
+    println!("cargo:rustc-link-lib=static=pitskelo");
+    println!("cargo:rustc-env=PITSKELO_ARCHIVE={}", archive.display());
 }

@@ -8,7 +8,7 @@ use lib.IntN.{ℤ}
 use lib.ListN.{getD, set}
 use lib.Dec.{eqb}
 use Rattle.word.specs.Word.{val, bitsOf, addOf, subOf, divOf, lessOf, placeOf}
-use Rattle.instruction.specs.Bytes.{byte, lengthOf, instructionAt}
+use Rattle.instruction.specs.Bytes.{byte, lengthOf}
 use Rattle.instruction.specs.declared.Instruction.{Instruction}
 use Rattle.instruction.specs.declared.Instruction.the-variants.{End, Set, Copy, Add, Sub, Div, Read, Emit, Jump, Less, Get, Put, Exclude, Checkpoint}
 

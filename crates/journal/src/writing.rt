@@ -14,7 +14,7 @@ ghost use Prim.Native.Nat.{ℕ, _+_, _≤_};
 ghost use lib.ListN.{length, getD};
 ghost use lib.Dec.{leb};
 ghost use lib.Seq.{sets};
-ghost use Rattle.journal.specs.Format.{Saved, recordImage, commitImage, image};
+ghost use Rattle.journal.specs.Format.{recordImage, commitImage, image};
 ghost use Rattle.journal.specs.declared.Commit;
 ghost use Rattle.journal.specs.Writing.{checkpointOf};
 

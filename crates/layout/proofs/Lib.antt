@@ -1,5 +1,5 @@
--- `Laws` is what the crates above cite; `Numbering` and `Turning` serve the proofs of this crate alone.
+-- `Laws` and `Numbering` are what the crates above cite; `Turning` serves the proofs of this crate alone.
 -- Assumes nothing.
-mod Numbering
+pub mod Numbering
 mod Turning
 pub mod Laws

@@ -29,18 +29,16 @@ pub fn load_words(bytes: &[u8], n: usize) -> [u64; 512]
     words
 }
 
-// n signed numbers from offset `at` on.
-pub fn load_signed(bytes: &[u8], at: usize, n: usize) -> [i32; 1024]
-    requires { ⌜ (n ≤ 1024) × (at + 4 * n ≤ length (now bytes)) ⌝ }
-    ensures { λ r. ⌜ (length r ≡ 1024) × (take n r ≡ signedFrom n (now (bytes .entry)) at) ⌝ }
+// n signed numbers from offset `at` on, into the front of the values.
+pub fn load_signed(bytes: &[u8], at: usize, values: &mut [i32], n: usize)
+    requires { ⌜ (n ≤ length (now values)) × (at + 4 * n ≤ length (now bytes)) ⌝ }
+    ensures { λ _. ⌜ take n (now (values .exit)) ≡ signedFrom n (now (bytes .entry)) at ⌝ }
 {
-    let mut values = [0i32; 1024];
     let mut k: usize = 0;
     while k < n {
         values[k] = from_bits(load32(bytes, at + 4 * k));
         k += 1;
     }
-    values
 }
 
 // The first n of the values, from offset `at` on.
@@ -55,7 +53,7 @@ pub fn store_signed(bytes: &mut [u8], at: usize, values: &[i32], n: usize)
     }
 }
 
-fn load_cells(bytes: &[u8]) -> [u32; 256]
+pub fn load_cells(bytes: &[u8]) -> [u32; 256]
     requires { ⌜ 1024 ≤ length (now bytes) ⌝ }
     ensures { λ r. ⌜ r ≡ cellsIn (now (bytes .entry)) ⌝ }
 {
@@ -68,7 +66,7 @@ fn load_cells(bytes: &[u8]) -> [u32; 256]
     cells
 }
 
-fn load_marks(bytes: &[u8]) -> [u8; 256]
+pub fn load_marks(bytes: &[u8]) -> [u8; 256]
     requires { ⌜ 1280 ≤ length (now bytes) ⌝ }
     ensures { λ r. ⌜ r ≡ marksIn (now (bytes .entry)) ⌝ }
 {
@@ -81,7 +79,7 @@ fn load_marks(bytes: &[u8]) -> [u8; 256]
     marks
 }
 
-fn load_regs(bytes: &[u8]) -> Regs
+pub fn load_regs(bytes: &[u8]) -> Regs
     requires { ⌜ 1312 ≤ length (now bytes) ⌝ }
     ensures { λ r. ⌜ r ≡ regsIn (now (bytes .entry)) ⌝ }
 {
@@ -144,6 +142,16 @@ fn store_regs(bytes: &mut [u8], r: Regs)
     store32(bytes, 1308, r.saving);
 }
 
+// The bytes of registers, cells and marks, over the whole buffer.
+pub fn store_parts(bytes: &mut [u8], regs: Regs, cells: &[u32], marks: &[u8])
+    requires { ⌜ (length (now bytes) ≡ 1312) × (length (now cells) ≡ 256) × (length (now marks) ≡ 256) ⌝ }
+    ensures { λ _. ⌜ now (bytes .exit) ≡ stateBytes regs (now (cells .entry)) (now (marks .entry)) ⌝ }
+{
+    store_cells(bytes, cells);
+    store_marks(bytes, marks);
+    store_regs(bytes, regs);
+}
+
 // The bytes of the state, over the whole buffer.
 pub fn store_state(bytes: &mut [u8], state: State)
     requires { ⌜ length (now bytes) ≡ 1312 ⌝ }
@@ -152,7 +160,5 @@ pub fn store_state(bytes: &mut [u8], state: State)
     let regs = state.regs;
     let cells = state.cells;
     let marks = state.marks;
-    store_cells(bytes, &cells[..]);
-    store_marks(bytes, &marks[..]);
-    store_regs(bytes, regs);
+    store_parts(bytes, regs, &cells[..], &marks[..]);
 }

@@ -11,7 +11,7 @@ use worklist::revisit;
 use worklist::thread;
 ghost use mathlib.Core.Path.{_≡_};
 ghost use mathlib.Core.Bool.{true, false};
-ghost use Prim.Native.Nat.{ℕ, _+_, _*_, _≤_, _<_};
+ghost use Prim.Native.Nat.{_+_, _*_, _≤_, _<_};
 ghost use lib.ListN.{length};
 ghost use Rattle.cellset.specs.Sets.{SetIs};
 ghost use Rattle.liveness.specs.Graph.{Wired, Rooms, Ready, total, meetBit, Turned, Drained, Settled, Full};

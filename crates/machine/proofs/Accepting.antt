@@ -1,13 +1,14 @@
 -- What an accepted call relies on, and that the machine which a run leaves is accepted again.
 -- Assumes nothing.
 use Prim.Native.Nat.{ℕ, _≤_}
-use mathlib.Core.Path.{_≡_, refl, sym, subst}
+use mathlib.Core.Path.{_≡_, refl, sym, _∙_, ap, subst}
 use mathlib.Core.List.{List}
 use native.Mathlib.Omega.{arith}
 use borrow.Author.Tests.{le-ltb, eqb-true, eqb-false}
 use lib.Dec.{eqb}
 use lib.IntN.{ℤ}
-use lib.ListN.{length}
+use lib.ListN.{length, take}
+use lib.Seq.{sets, sets-eq, take-at}
 use Rattle.program.specs.Check.{answerOf, checkOf}
 use Rattle.program.specs.Grounds.{Ruled}
 use Rattle.program.specs.declared.Checked.{Checked}
@@ -60,3 +61,7 @@ accepts-run e ρ room left c a =
       words = a .words;
       good = good-run e ρ room (ready e (a .legal) (a .words) .1) left c (a .good);
     }
+
+-- the outputs that a call gave stand first in their buffer
+pub outputs-first : (vs outs : List ℤ) → length vs ≤ length outs → take (length vs) (sets outs 0 vs) ≡ vs
+outputs-first vs outs h = ap (take (length vs)) (sets-eq vs outs 0 (omega arith)) ∙ take-at vs _ (length vs) refl

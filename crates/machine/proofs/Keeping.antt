@@ -39,7 +39,7 @@ record SameLengths (m m′ : Machine) : Type 0 where
   marks : length (m′ .marks) ≡ length (m .marks)
   journal : length (m′ .journal) ≡ length (m .journal)
 
-cells-length : (f : Effect) (xs : List ℕ) → length (cellsAfter f xs) ≡ length xs
+pub cells-length : (f : Effect) (xs : List ℕ) → length (cellsAfter f xs) ≡ length xs
 cells-length (stops k) xs = refl
 cells-length on xs = refl
 cells-length (goes t) xs = refl

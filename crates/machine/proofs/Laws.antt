@@ -97,7 +97,7 @@ spent-only (buffer-full h l d t) s = absurd (let z : _≡_ {A = ℕ} 0 1 = cc in
 -- ---- what a step takes and gives
 
 -- an effect, what it takes and what it gives, by cases on the opcode's tests
-push-effect : (b : Bool) (i j : Instruction) (v : ℤ) (n m : ℕ) (x : ℕ → ℕ) → effectOf (cond b i j) v n m x ≡ cond b (effectOf i v n m x) (effectOf j v n m x)
+pub push-effect : (b : Bool) (i j : Instruction) (v : ℤ) (n m : ℕ) (x : ℕ → ℕ) → effectOf (cond b i j) v n m x ≡ cond b (effectOf i v n m x) (effectOf j v n m x)
 push-effect true i j v n m x = refl
 push-effect false i j v n m x = refl
 

@@ -13,7 +13,7 @@ use Rattle.machine.specs.declared.Ended.{Ended}
 use Rattle.machine.specs.declared.Pass.{Pass}
 use Rattle.machine.specs.declared.quiet.Flow.{Flow}
 use Rattle.machine.specs.declared.run.Exit.{Exit}
-use Rattle.machine.specs.declared.run.Stand.{Stand}
+use Rattle.machine.specs.declared.Stand.{Stand}
 use Rattle.machine.specs.State.{Env, Machine, machineOf}
 use Rattle.machine.specs.Step.{givenOf}
 use Rattle.machine.specs.Run.{Call, exitBefore, stepped, runOf, started}

@@ -2,9 +2,10 @@
 -- part of `savingSound` and of `soundOf` in the order of the code.
 -- Assumes nothing.
 use mathlib.Core.Path.{_≡_, refl, sym, _∙_, ap}
-use mathlib.Core.Bool.{Bool, true, false, cond, _&&_, _||_, not, and-false, and-assoc}
+use mathlib.Core.Bool.{Bool, true, false, cond, _&&_, _||_, not, and-false, and-true, and-assoc}
 use mathlib.Core.List.{List, []}
 use Prim.Native.Nat.{ℕ, zero, suc, _+_, _-_, _≤_, _<_}
+use native.Mathlib.Nat.{zero-add}
 use native.Mathlib.Numerals.{add-one}
 use native.Mathlib.Omega.{arith}
 use lib.Dec.{eqb, ltb, leb}
@@ -34,18 +35,20 @@ zero-step : (l : List ℕ) (c : ℕ) → c < 256 → zeroFrom l c (256 - c) ≡ 
 unfolding zeroFrom
 zero-step l c h = let e : 256 - c ≡ suc (256 - (c + 1)) = omega arith in rw (e, add-one c)
 
--- a number that is 0 leaves the test to those behind it
-pub zero-turn : (l : List ℕ) (c : ℕ) {z : Bool} → z ≡ zeroFrom l c (256 - c) → c < 256 → getD l c 0 ≡ 0 → z ≡ zeroFrom l (c + 1) (256 - (c + 1))
-zero-turn l c e h n = e ∙ zero-step l c h ∙ rw (eq-eqb _ _ n)
+-- a sum is 0 where both numbers are
+sum-zero : (s x : ℕ) → (eqb s 0 && eqb x 0) ≡ eqb (s + x) 0
+sum-zero zero x = rw (zero-add x)
+sum-zero (suc s) x = rw (ne-eqb (suc s) 0 (λ z. omega arith), ne-eqb (suc s + x) 0 (λ z. omega arith))
 
--- another decides it
-pub zero-failed : (l : List ℕ) (c : ℕ) {z : Bool} → z ≡ zeroFrom l c (256 - c) → c < 256 → ¬ (getD l c 0 ≡ 0) → false ≡ z
-zero-failed l c e h n = sym (e ∙ zero-step l c h ∙ rw (ne-eqb _ _ n))
+-- the next number goes into the sum
+pub zero-turn : (l : List ℕ) (s c : ℕ) {z : Bool} {x : ℕ} → z ≡ (eqb s 0 && zeroFrom l c (256 - c)) → c < 256 → x ≡ getD l c 0
+    → z ≡ (eqb (s + x) 0 && zeroFrom l (c + 1) (256 - (c + 1)))
+zero-turn l s c {x = x} e h d = e ∙ rw (zero-step l c h, ← d, ← sum-zero s x) (sym (and-assoc (eqb s 0) _ _))
 
 -- and none is behind the last
-pub zero-done : (l : List ℕ) (c : ℕ) {z : Bool} → z ≡ zeroFrom l c (256 - c) → 256 ≤ c → true ≡ z
+pub zero-done : (l : List ℕ) (s c : ℕ) {z : Bool} → z ≡ (eqb s 0 && zeroFrom l c (256 - c)) → 256 ≤ c → eqb s 0 ≡ z
 unfolding zeroFrom
-zero-done l c e h = let k : 256 - c ≡ 0 = omega arith in sym (e ∙ rw k)
+zero-done l s c e h = let k : 256 - c ≡ 0 = omega arith in sym (e ∙ rw k (and-true _))
 
 -- ---- the loop of `are_marks`
 
@@ -53,18 +56,21 @@ marks-step : (l : List ℕ) (c : ℕ) → c < 256 → marksFrom l c (256 - c) �
 unfolding marksFrom
 marks-step l c h = let e : 256 - c ≡ suc (256 - (c + 1)) = omega arith in rw (e, add-one c)
 
--- a mark's byte leaves the test to those behind it
-pub marks-turn : (l : List ℕ) (c : ℕ) {z : Bool} → z ≡ marksFrom l c (256 - c) → c < 256 → getD l c 0 ≤ 3 → z ≡ marksFrom l (c + 1) (256 - (c + 1))
-marks-turn l c e h n = e ∙ marks-step l c h ∙ rw (le-leb _ _ n)
+-- a byte that is no mark's counts
+wrong-zero : (b : Bool) → b ≡ eqb (cond b 0 1) 0
+wrong-zero true = refl
+wrong-zero false = refl
 
--- another decides it
-pub marks-failed : (l : List ℕ) (c : ℕ) {z : Bool} → z ≡ marksFrom l c (256 - c) → c < 256 → 3 < getD l c 0 → false ≡ z
-marks-failed l c e h n = sym (e ∙ marks-step l c h ∙ rw (lt-leb _ _ n))
+pub marks-turn : (l : List ℕ) (s c : ℕ) {z : Bool} {w : ℕ} → z ≡ (eqb s 0 && marksFrom l c (256 - c)) → c < 256 → w ≡ cond (leb (getD l c 0) 3) 0 1
+    → z ≡ (eqb (s + w) 0 && marksFrom l (c + 1) (256 - (c + 1)))
+marks-turn l s c {w = w} e h d =
+    let k : leb (getD l c 0) 3 ≡ eqb w 0 = rw d (wrong-zero (leb (getD l c 0) 3)) in
+    e ∙ rw (marks-step l c h, k, ← sum-zero s w) (sym (and-assoc (eqb s 0) _ _))
 
 -- and none is behind the last
-pub marks-done : (l : List ℕ) (c : ℕ) {z : Bool} → z ≡ marksFrom l c (256 - c) → 256 ≤ c → true ≡ z
+pub marks-done : (l : List ℕ) (s c : ℕ) {z : Bool} → z ≡ (eqb s 0 && marksFrom l c (256 - c)) → 256 ≤ c → eqb s 0 ≡ z
 unfolding marksFrom
-marks-done l c e h = let k : 256 - c ≡ 0 = omega arith in sym (e ∙ rw k)
+marks-done l s c e h = let k : 256 - c ≡ 0 = omega arith in sym (e ∙ rw k (and-true _))
 
 -- ---- the places
 

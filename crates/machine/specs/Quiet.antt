@@ -1,15 +1,15 @@
 -- What the inner loop of a run does: it goes along a run, whatever the registers that it does not touch.
 -- Assumes nothing.
-use Prim.Native.Nat.{ℕ, _+_, _-_, _≤_, _<_}
+use Prim.Native.Nat.{ℕ, _+_, _-_, _≤_}
 use mathlib.Core.Path.{_≡_}
 use mathlib.Core.Bool.{true}
 use mathlib.Core.List.{List}
-use lib.IntN.{ℤ, pos}
-use lib.ListN.{length, getD, take, drop}
+use lib.IntN.{ℤ}
+use lib.ListN.{length, take, drop}
 use Rattle.program.specs.Places.{isStart}
 use Rattle.machine.specs.declared.Regs.{Regs}
 use Rattle.machine.specs.declared.quiet.Flow.{Flow}
-use Rattle.machine.specs.State.{Env, Machine, machineOf}
+use Rattle.machine.specs.State.{Env, machineOf}
 use Rattle.machine.specs.Run.{Call, runOf}
 use Rattle.machine.specs.Ready.{Ready, Good}
 

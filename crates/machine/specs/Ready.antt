@@ -13,7 +13,7 @@ use Rattle.program.specs.Check.{checkOf}
 use Rattle.program.specs.Places.{Places}
 use Rattle.program.specs.declared.Checked.the-variants.{Program}
 use Rattle.machine.specs.State.{Env, Machine, machineOf, soundOf}
-use Rattle.machine.specs.Run.{Call, Finish, stepped, runOf, started}
+use Rattle.machine.specs.Run.{Call, stepped, runOf, started}
 use Rattle.machine.specs.declared.Ended.{Ended}
 use Rattle.machine.specs.declared.Ended.the-variants.{Stopped, Spent, NoReading, BufferFull}
 use Rattle.machine.specs.declared.run.Exit.{Exit}

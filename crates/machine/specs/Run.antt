@@ -1,7 +1,7 @@
 -- A run: "Run is given a budget of steps and repeats steps".
 -- Assumes nothing.
 use Prim.Native.Nat.{ℕ, zero, suc, _+_}
-use mathlib.Core.Bool.{Bool, cond, _&&_, _||_, not}
+use mathlib.Core.Bool.{cond, _&&_, not}
 use mathlib.Core.List.{List, [], _∷_, _++_}
 use mathlib.Core.Option.{Option, none, some}
 use lib.IntN.{ℤ, pos}
@@ -13,7 +13,7 @@ use Rattle.program.specs.declared.Checked.{Checked}
 use Rattle.program.specs.declared.Checked.the-variants as checked
 use Rattle.machine.specs.declared.Ended.{Ended}
 use Rattle.machine.specs.declared.Ended.the-variants.{Refused, Stopped, Spent, NoReading, BufferFull}
-use Rattle.machine.specs.State.{Env, envOf, Machine, soundOf}
+use Rattle.machine.specs.State.{Env, Machine, soundOf}
 use Rattle.machine.specs.Step.{stepOf, dueOpcode, givenOf, takenOf}
 
 -- where a run stands: the machine, "this call's steps, readings taken and outputs written"

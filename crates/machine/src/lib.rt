@@ -6,12 +6,13 @@ mod step;
 mod stretch;
 
 use program::Checked;
-use program::places::places;
+use program::examine;
+use program::places::blank;
 use run::run;
 use sound::sound;
 ghost use mathlib.Core.Path.{_≡_};
 ghost use mathlib.Core.List.{List};
-ghost use Prim.Native.Nat.{ℕ, _≤_};
+ghost use Prim.Native.Nat.{ℕ};
 ghost use lib.ListN.{length};
 ghost use Rattle.program.specs.Places.{Places};
 ghost use Rattle.machine.specs.State.{envOf, machineOf};
@@ -56,6 +57,12 @@ pub struct Pass {
     pub written: usize,
 }
 
+// Where a run ended, and how.
+pub struct Stand {
+    pub pass: Pass,
+    pub ended: Ended,
+}
+
 // What a call of run gives back: the state, how the run ended, and this call's steps, readings taken and
 // outputs written.
 pub struct Ran {
@@ -64,6 +71,21 @@ pub struct Ran {
     pub steps: u64,
     pub taken: usize,
     pub written: usize,
+}
+
+// A refused run stands where it started.
+fn refused_at(start: Regs, number: u32) -> Stand
+    ensures { λ s. ⌜ s ≡ record { pass = record { regs = start; steps = 0; taken = 0; written = 0 }; ended = Ended.Refused number } ⌝ }
+{
+    Stand {
+        pass: Pass {
+            regs: start,
+            steps: 0,
+            taken: 0,
+            written: 0,
+        },
+        ended: Ended::Refused(number),
+    }
 }
 
 fn refused(state: State, number: u32) -> Ran
@@ -103,39 +125,69 @@ fn late_refusal(
     0
 }
 
-// The run of an accepted program, which the other refusals may still prevent.
+// The run of an accepted program on cells and marks that are lent, which the refusals 9 to 11 may still prevent.
+pub fn run_in_place(
+    start: Regs,
+    program: &[u8],
+    table: &[u8; 2048],
+    sets: &[u64],
+    cells: &mut [u32; 256],
+    marks: &mut [u8; 256],
+    journal: &mut [u8],
+    readings: &[i32],
+    outputs: &mut [i32],
+    budget: u64,
+) -> Stand
+    requires { ⌜ Legal (now program) × Places (now program) (now table) × (length (now cells) ≡ 256) × (length (now marks) ≡ 256) ⌝ }
+    ensures { λ s. ⌜ outcome (s .ended) (machineOf (s .pass .regs) (now (cells .exit)) (now (marks .exit)) (now (journal .exit))) (s .pass .steps) (s .pass .taken) (s .pass .written) (now (outputs .exit)) ≡ callOf (envOf (now (program .entry)) (now (sets .entry))) (now (readings .entry)) budget (machineOf start (now (cells .entry)) (now (marks .entry)) (now (journal .entry))) (now (outputs .entry)) ⌝ }
+{
+    let words = sets.len();
+    let number = late_refusal(start, program, table, words, cells, marks, journal.len());
+    if number != 0 {
+        return refused_at(start, number);
+    }
+    run(
+        start,
+        budget,
+        readings,
+        program,
+        table,
+        sets,
+        cells,
+        marks,
+        journal,
+        outputs,
+    )
+}
+
+// The run of an accepted program on a state by value.
 fn run_legal(
     state: State,
     program: &[u8],
+    table: &[u8; 2048],
     sets: &[u64],
     journal: &mut [u8],
     readings: &[i32],
     outputs: &mut [i32],
     budget: u64,
 ) -> Ran
-    requires { ⌜ Legal (now program) ⌝ }
+    requires { ⌜ Legal (now program) × Places (now program) (now table) ⌝ }
     ensures { λ r. ⌜ outcome (r .ended) (machineOf (r .state .regs) (r .state .cells) (r .state .marks) (now (journal .exit))) (r .steps) (r .taken) (r .written) (now (outputs .exit)) ≡ callOf (envOf (now (program .entry)) (now (sets .entry))) (now (readings .entry)) budget (machineOf (state .regs) (state .cells) (state .marks) (now (journal .entry))) (now (outputs .entry)) ⌝ }
 {
-    let table = places(program);
     let regs = state.regs;
     let mut cells = state.cells;
     let mut marks = state.marks;
-    let words = sets.len();
-    let number = late_refusal(regs, program, &table, words, &cells, &marks, journal.len());
-    if number != 0 {
-        return refused(state, number);
-    }
-    let end = run(
+    let end = run_in_place(
         regs,
-        budget,
-        readings,
         program,
-        &table,
+        table,
         sets,
         &mut cells,
         &mut marks,
         journal,
+        readings,
         outputs,
+        budget,
     );
     let ended = end.ended;
     let pass = end.pass;
@@ -161,13 +213,23 @@ pub fn run_value(
 ) -> Ran
     ensures { λ r. ⌜ outcome (r .ended) (machineOf (r .state .regs) (r .state .cells) (r .state .marks) (now (journal .exit))) (r .steps) (r .taken) (r .written) (now (outputs .exit)) ≡ callOf (envOf (now (program .entry)) (now (sets .entry))) (now (readings .entry)) budget (machineOf (state .regs) (state .cells) (state .marks) (now (journal .entry))) (now (outputs .entry)) ⌝ }
 {
-    match program::check(program) {
+    let mut table = blank();
+    match examine(program, &mut table) {
         Checked::Refused(number) => refused(state, number),
         Checked::Program {
             cells: _,
             instructions: _,
             excludes: _,
-        } => run_legal(state, program, sets, journal, readings, outputs, budget),
+        } => run_legal(
+            state,
+            program,
+            &table,
+            sets,
+            journal,
+            readings,
+            outputs,
+            budget,
+        ),
     }
 }
 

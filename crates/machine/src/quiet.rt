@@ -1,7 +1,6 @@
 // The inner loop of a run: instructions that touch the cells and the place alone, READ and EMIT, one after the other, as
 // long as budget, readings, outputs' places and counts last. It only saves time: where it stops, the
 // general step goes on.
-use crate::Regs;
 use execution::after;
 use execution::cell;
 use execution::plain;
@@ -12,8 +11,7 @@ use word::from_bits;
 use word::to_bits;
 ghost use mathlib.Core.Path.{_≡_};
 ghost use mathlib.Core.Bool.{true};
-ghost use mathlib.Core.List.{List};
-ghost use Prim.Native.Nat.{ℕ, _+_, _<_, _≤_};
+ghost use Prim.Native.Nat.{_+_, _<_, _≤_};
 ghost use lib.ListN.{length, set};
 ghost use Rattle.word.specs.Word.{val, bitsOf};
 ghost use Rattle.instruction.specs.Bytes.{byte, lengthOf};

@@ -2,6 +2,7 @@
 use crate::Ended;
 use crate::Pass;
 use crate::Regs;
+use crate::Stand;
 use crate::quiet::Flow;
 use crate::quiet::quiet;
 use crate::step::step;
@@ -12,7 +13,7 @@ ghost use mathlib.Core.Path.{_≡_};
 ghost use mathlib.Core.Bool.{true};
 ghost use mathlib.Core.List.{List};
 ghost use mathlib.Core.Option.{none};
-ghost use Prim.Native.Nat.{ℕ, _+_, _-_, _<_, _≤_, min};
+ghost use Prim.Native.Nat.{ℕ, _+_, _-_, _<_, _≤_};
 ghost use lib.IntN.{ℤ, pos};
 ghost use lib.ListN.{length, getD, drop, replicate};
 ghost use lib.Seq.{sets};
@@ -22,7 +23,7 @@ ghost use Rattle.execution.specs.Effects.{cellsIn};
 ghost use Rattle.machine.specs.Quiet.{regsAt};
 ghost use Rattle.machine.specs.State.{envOf, machineOf};
 ghost use Rattle.machine.specs.Step.{dueOpcode};
-ghost use Rattle.machine.specs.Run.{exitBefore, stepped, runOf, started};
+ghost use Rattle.machine.specs.Run.{exitBefore};
 ghost use Rattle.machine.specs.Ready.{Legal, Ready, Good, Within, standing, exitOf, RushIs, TurnIs, RunIs};
 
 // An exit before a step, or none.
@@ -32,12 +33,6 @@ enum Exit {
     NoReading,
     BufferFull,
     None,
-}
-
-// Where a run ended, and how.
-pub struct Stand {
-    pub pass: Pass,
-    pub ended: Ended,
 }
 
 // How many more a count can take, of n that are there.

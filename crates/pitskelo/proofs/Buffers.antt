@@ -1,6 +1,6 @@
 -- The words in a buffer of bytes, one by one, and what they are after words were stored there.
 -- Assumes nothing.
-use mathlib.Core.Path.{_≡_, refl, sym, _∙_, ap}
+use mathlib.Core.Path.{_≡_, sym, _∙_, ap}
 use mathlib.Core.Logic.{⊎-elim}
 use mathlib.Core.List.{List}
 use Prim.Native.Nat.{ℕ, zero, suc, _+_, _*_, _/_, _≤_, _<_}
@@ -9,18 +9,15 @@ use lib.ListN.{length, getD, List·getD-eq-default}
 use Rattle.word.specs.Bytes.{loadOf}
 use Rattle.word.proofs.Bytes.{load-same}
 use Rattle.cellset.proofs.Bits.{le-or-lt}
-use Rattle.pitskelo.specs.Calls.{wordsFrom, wordsOf}
+use Rattle.layout.specs.Numbers.{numbersFrom}
+use Rattle.layout.proofs.Numbering.{numbers-length}
+use Rattle.pitskelo.specs.Calls.{wordsOf}
 use Rattle.pitskelo.specs.Storing.{Stored}
 
 -- ---- the words one by one
 
-length-from : (n : ℕ) (b : List ℕ) (at : ℕ) → length (wordsFrom n b at) ≡ n
-unfolding wordsFrom
-length-from zero b at = refl
-length-from (suc n) b at = ap suc (length-from n b (at + 8))
-
-from-at : (n : ℕ) (b : List ℕ) (at k : ℕ) → k < n → getD (wordsFrom n b at) k 0 ≡ loadOf 8 b (at + 8 * k)
-unfolding wordsFrom
+from-at : (n : ℕ) (b : List ℕ) (at k : ℕ) → k < n → getD (numbersFrom 8 n b at) k 0 ≡ loadOf 8 b (at + 8 * k)
+unfolding numbersFrom
 from-at zero b at k h = absurd (omega arith)
 from-at (suc n) b at zero h = ap (loadOf 8 b) (omega arith)
 from-at (suc n) b at (suc k) h = from-at n b (at + 8) k (omega arith) ∙ ap (loadOf 8 b) (omega arith)
@@ -28,7 +25,7 @@ from-at (suc n) b at (suc k) h = from-at n b (at + 8) k (omega arith) ∙ ap (lo
 -- so many whole words, and word k from byte 8 × k on
 pub length-words : (b : List ℕ) → length (wordsOf b) ≡ length b / 8
 unfolding wordsOf
-length-words b = length-from (length b / 8) b 0
+length-words b = numbers-length 8 (length b / 8) b 0
 
 pub word-at : (b : List ℕ) (k : ℕ) → k < length b / 8 → getD (wordsOf b) k 0 ≡ loadOf 8 b (8 * k)
 unfolding wordsOf

@@ -1,7 +1,7 @@
--- The refusal of a call that lends a state of another length.
+-- The number of a plan, and the refusal of a call that lends a state of another length.
 -- Assumes nothing.
 use Prim.Native.Nat.{ℕ, _/_, _≤_, _<_}
-use mathlib.Core.Path.{_≡_}
+use mathlib.Core.Path.{_≡_, sym, ap}
 use mathlib.Core.List.{List}
 use native.Mathlib.Omega.{arith}
 use borrow.Author.Tests.{lt-ltb, le-ltb, ne-eqb, eqb-false}
@@ -9,11 +9,20 @@ use lib.Dec.{eqb, ltb}
 use lib.ListN.{length}
 use Rattle.program.specs.Check.{answerOf, checkOf}
 use Rattle.program.specs.Grounds.{Ruled}
+use Rattle.program.specs.Places.{Places}
 use Rattle.program.specs.declared.Checked.the-variants.{Program, Refused}
 use Rattle.program.proofs.Grounds.{accepted-values}
 use Rattle.program.proofs.Tests.{bool-cases}
 use Rattle.machine.specs.Run.{numberOf}
-use Rattle.pitskelo.specs.Runs.{oddState}
+use Rattle.pitskelo.specs.Runs.{oddState, PlanIs}
+
+-- a refused plan's number, and an accepted plan
+pub refused-plan : {p table : List ℕ} {k : ℕ} → Refused k ≡ checkOf p → Ruled p (answerOf (Refused k)) → PlanIs p k table
+refused-plan h r = record { number = ap numberOf h; accepted = λ z. absurd (omega (arith, accepted-values r z)) }
+
+pub accepted-plan : {p table : List ℕ} {c i e : ℕ} → Program c i e ≡ checkOf p → Places p table → PlanIs p 0 table
+accepted-plan {c = c} {i} {e} h t =
+    record { number = ap numberOf h; accepted = λ z. (record { cells = c; instructions = i; excludes = e; accepted = sym h }, t) }
 
 -- the plan's
 pub plan-refused : (p ws : List ℕ) {k : ℕ} → Refused k ≡ checkOf p → Ruled p (answerOf (Refused k)) → k ≡ oddState p ws

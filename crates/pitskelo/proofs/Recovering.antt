@@ -5,7 +5,7 @@ use mathlib.Core.Path.{_≡_, sym, _∙_, ap, subst}
 use mathlib.Core.List.{List}
 use borrow.Author.Tests.{eq-eqb, ne-eqb}
 use lib.ListN.{length, take}
-use Rattle.machine.specs.declared.State.{State}
+use Rattle.machine.specs.declared.Regs.{Regs}
 use Rattle.machine.specs.State.{Env, envOf, Machine, machineOf}
 use Rattle.recovery.specs.declared.Recovered.{Recovered}
 use Rattle.recovery.specs.declared.Recovered.the-variants.{Restored}
@@ -21,12 +21,12 @@ unfolding setsIn
 words-in ws words e h = h ∙ ap (λ (n : ℕ). numbersFrom 8 n ws 0) e
 
 -- a state as it was loaded
-abbrev pub Loaded : List ℕ → State → Type 0
-Loaded b s = (s .regs ≡ regsIn b) × (s .cells ≡ cellsIn b) × (s .marks ≡ marksIn b)
+abbrev pub Loaded : List ℕ → Regs → (cells marks : List ℕ) → Type 0
+Loaded b r xs ms = (r ≡ regsIn b) × (xs ≡ cellsIn b) × (ms ≡ marksIn b)
 
 -- with a chip it is the machine of the bytes
-pub machine-loaded : (b : List ℕ) (s : State) (chip : List ℕ) → Loaded b s → machineOf (s .regs) (s .cells) (s .marks) chip ≡ machineIn b chip
-machine-loaded b s chip l = λ i. machineOf (l .0 i) (l .1 i) (l .2 i) chip
+pub machine-loaded : (b : List ℕ) {r : Regs} {xs ms : List ℕ} (chip : List ℕ) → Loaded b r xs ms → machineOf r xs ms chip ≡ machineIn b chip
+machine-loaded b chip l = λ i. machineOf (l .0 i) (l .1 i) (l .2 i) chip
 
 -- what holds of the words and the machine holds of those that they are equal to
 pub carried : (P : Env → Machine → Type 0) (p : List ℕ) {vs ws : List ℕ} {m n : Machine} → vs ≡ ws → m ≡ n → P (envOf p vs) m → P (envOf p ws) n
@@ -42,12 +42,12 @@ odd-recovery p ws chip state {k} odd h =
       left = rw (ne-eqb k 0 (λ z. odd-refused p ws (sym h ∙ z)));
     }
 
-module _ (p ws chip state words : List ℕ) {n : ℕ} {s : State} (size : length state ≡ 1312) (few : n ≡ min (length ws / 8) 512)
-    (loaded : take n words ≡ numbersFrom 8 n ws 0) (from : Loaded state s) {a : Recovered} {m : Machine}
-    (r : Recovers (envOf p (take n words)) (machineOf (s .regs) (s .cells) (s .marks) chip) (outcome a m)) where
+module _ (p ws chip state words : List ℕ) {n : ℕ} {q : Regs} {xs ms : List ℕ} (size : length state ≡ 1312) (few : n ≡ min (length ws / 8) 512)
+    (loaded : take n words ≡ numbersFrom 8 n ws 0) (from : Loaded state q xs ms) {a : Recovered} {m : Machine}
+    (r : Recovers (envOf p (take n words)) (machineOf q xs ms chip) (outcome a m)) where
   -- the outcome is that of what the bytes hold
   recovered : Recovers (envOf p (setsIn ws)) (machineIn state chip) (outcome a m)
-  recovered = carried (λ (e : Env) (m₀ : Machine). Recovers e m₀ (outcome a m)) p (words-in ws words few loaded) (machine-loaded state s chip from) r
+  recovered = carried (λ (e : Env) (m₀ : Machine). Recovers e m₀ (outcome a m)) p (words-in ws words few loaded) (machine-loaded state chip from) r
 
   -- a refusal leaves the state
   pub refused-recovery : {k : ℕ} → k ≡ answerOf a .number → ¬ (k ≡ 0) → RecoverCall p ws chip state state k
@@ -56,4 +56,4 @@ module _ (p ws chip state words : List ℕ) {n : ℕ} {s : State} (size : length
 
   -- else the outcome's is stored
   pub done-recovery : {k : ℕ} → k ≡ answerOf a .number → k ≡ 0 → {b : List ℕ} → b ≡ bytesOfState m → RecoverCall p ws chip state b 0
-  done-recovery h z q = record { outcome = outcome a m; recovers = λ e. recovered; number = rw (eq-eqb (length state) 1312 size) (sym z ∙ h); left = q }
+  done-recovery h z l = record { outcome = outcome a m; recovers = λ e. recovered; number = rw (eq-eqb (length state) 1312 size) (sym z ∙ h); left = l }

@@ -9,16 +9,18 @@ use lib.IntN.{ℤ}
 use lib.ListN.{length, getD, take}
 use lib.Seq.{sets}
 use Rattle.machine.specs.declared.Ended.{Ended}
-use Rattle.machine.specs.declared.State.{State}
+use Rattle.machine.specs.declared.Regs.{Regs}
 use Rattle.machine.specs.State.{Env, envOf, Machine, machineOf}
-use Rattle.machine.specs.Run.{Outcome, outcome, refusalOf, callOf, answerOf}
+use Rattle.program.specs.Check.{checkOf}
+use Rattle.machine.specs.Run.{numberOf, Outcome, outcome, refusalOf, callOf, answerOf}
+use Rattle.machine.proofs.Accepting.{outputs-first}
 use Rattle.layout.specs.Numbers.{numbersFrom, signedOf, signedBytes}
 use Rattle.layout.specs.Layout.{machineIn, bytesOfState}
 use Rattle.pitskelo.specs.Stretches.{WholeIs}
 use Rattle.pitskelo.specs.Runs.{setsIn, oddState, RunLent, ranOn, runNumber, runDone, runRefused, runCallOf}
 use Rattle.pitskelo.proofs.OddStates.{odd-refused}
 use Rattle.pitskelo.proofs.Recovering.{words-in, Loaded, machine-loaded, carried}
-use Rattle.pitskelo.proofs.Running.{front-back, signed-of-length, call-number, call-values, call-refused}
+use Rattle.pitskelo.proofs.Running.{signed-of-length, call-number, call-values, call-refused}
 
 -- a call whose number is not 0 is a refusal
 refuses : (l : RunLent) → ¬ (runNumber l ≡ 0) → runCallOf l ≡ runRefused l (runNumber l)
@@ -37,15 +39,23 @@ odd-run l {k} odd h =
     let n : k ≡ runNumber l = rw (ne-eqb (length (l .state)) 1312 odd) h in
     ap (runRefused l) n ∙ sym (refuses l (λ z. odd-refused (l .plan) (l .sets) (sym h ∙ n ∙ z)))
 
+-- a plan that check refuses
+pub plan-run : (l : RunLent) {k : ℕ} → length (l .state) ≡ 1312 → k ≡ numberOf (checkOf (l .plan)) → ¬ (k ≡ 0) → runRefused l k ≡ runCallOf l
+unfolding runNumber ranOn refusalOf
+plan-run l {k} size h some =
+    let n : k ≡ runNumber l =
+    rw (eq-eqb (length (l .state)) 1312 size, call-number (envOf (l .plan) (setsIn (l .sets))) (signedOf (l .readings)) (l .budget) (machineIn (l .state) (l .chip)) (signedOf (l .outputs)), ← h, ne-eqb k 0 some) in
+    ap (runRefused l) n ∙ sym (refuses l (λ z. some (n ∙ z)))
+
 -- bytes of no number
 no-bytes : (vs : List ℤ) → length vs ≡ 0 → signedBytes vs ≡ []
 unfolding signedBytes
 no-bytes [] h = refl
 no-bytes (v ∷ vs) h = absurd (omega arith)
 
-module _ (l : RunLent) (words : List ℕ) {n : ℕ} {s : State} (size : length (l .state) ≡ 1312) (few : n ≡ min (length (l .sets) / 8) 512)
-    (loaded : take n words ≡ numbersFrom 8 n (l .sets) 0) (from : Loaded (l .state) s) {x : Ended} {m : Machine} {steps taken written : ℕ} {b : List ℕ}
-    (r : WholeIs (envOf (l .plan) (take n words)) (signedOf (l .readings)) (l .budget) (machineOf (s .regs) (s .cells) (s .marks) (l .chip)) (l .outputs) x m
+module _ (l : RunLent) (words : List ℕ) {n : ℕ} {q : Regs} {xs ms : List ℕ} (size : length (l .state) ≡ 1312) (few : n ≡ min (length (l .sets) / 8) 512)
+    (loaded : take n words ≡ numbersFrom 8 n (l .sets) 0) (from : Loaded (l .state) q xs ms) {x : Ended} {m : Machine} {steps taken written : ℕ} {b : List ℕ}
+    (r : WholeIs (envOf (l .plan) (take n words)) (signedOf (l .readings)) (l .budget) (machineOf q xs ms (l .chip)) (l .outputs) x m
     steps taken written b) where
   -- what was lent, decoded
   abbrev env : Env
@@ -64,7 +74,7 @@ module _ (l : RunLent) (words : List ℕ) {n : ℕ} {s : State} (size : length (
   whole : WholeIs env ρ (l .budget) first (l .outputs) x m steps taken written b
   whole =
       carried (λ (e : Env) (m₀ : Machine). WholeIs e ρ (l .budget) m₀ (l .outputs) x m steps taken written b) (l .plan) (words-in (l .sets) words few loaded)
-      (machine-loaded (l .state) s (l .chip) from) r
+      (machine-loaded (l .state) (l .chip) from) r
 
   -- the places with the outputs in front
   abbrev outs : List ℤ
@@ -103,7 +113,7 @@ module _ (l : RunLent) (words : List ℕ) {n : ℕ} {s : State} (size : length (
   given : take written outs ≡ whole .given
   given =
       ap (λ (n : ℕ). take n outs) (sym (whole .count))
-      ∙ front-back (whole .given) places (omega (arith, whole .fits, whole .count, signed-of-length (l .outputs)))
+      ∙ outputs-first (whole .given) places (omega (arith, whole .fits, whole .count, signed-of-length (l .outputs)))
 
   -- an accepted call
   pub accepted-run : {k kind : ℕ} → k ≡ answerOf x .number → k ≡ 0 → {state : List ℕ} → state ≡ bytesOfState m → kind ≡ getD (answerOf x .values) 0 0

@@ -7,13 +7,14 @@ use native.Mathlib.Omega.{arith}
 use borrow.Author.Tests.{ne-eqb, eqb-true, eqb-false}
 use lib.Dec.{eqb}
 use lib.IntN.{ℤ}
-use lib.ListN.{length, getD, take, drop, length-append, length-drop}
-use lib.Seq.{sets, sets-eq, take-at, take-append-le, length-take-le}
+use lib.ListN.{length, getD, take, drop, length-append}
+use lib.Seq.{sets, take-append-le, length-take-le}
 use Rattle.program.proofs.Tests.{bool-cases}
 use Rattle.machine.specs.State.{Env, Machine}
 use Rattle.machine.specs.Run.{Call, Finish, Outcome, outcome, outcomeOf, refusedWith, started, runOf, refusalOf, callOf, answerOf}
 use Rattle.machine.specs.declared.Ended.{Ended}
 use Rattle.machine.proofs.Laws.{Exits, stopped, spent, no-reading, buffer-full, run-exit, given-within}
+use Rattle.machine.proofs.Accepting.{outputs-first}
 use Rattle.layout.specs.Numbers.{signedFrom, signedOf, signedBytes}
 use Rattle.layout.proofs.Laws.{signed-length, signed-drop, signed-take}
 use Rattle.pitskelo.specs.Stretches.{Lends, StretchIs}
@@ -21,10 +22,6 @@ use Rattle.pitskelo.specs.Stretches.{Lends, StretchIs}
 -- so many of an array that has them
 pub cut : {A : Type 0} (n size : ℕ) (l : List A) → n ≤ size → length l ≡ size → n ≡ length (take n l)
 cut n size l h e = sym (length-take-le n l (omega arith))
-
--- what was stored in front of a list is read back
-pub front-back : (vs outs : List ℤ) → length vs ≤ length outs → take (length vs) (sets outs 0 vs) ≡ vs
-front-back vs outs h = ap (take (length vs)) (sets-eq vs outs 0 (omega arith)) ∙ take-at vs _ (length vs) refl
 
 -- an exit is no refusal, and its one value is its kind
 exit-kind : {p : List ℕ} {left n room : ℕ} {c : Call} {x : Ended} → Exits p left n room c x
@@ -85,7 +82,7 @@ module _ {e : Env} {ρ : List ℤ} {budget t w : ℕ} {m₀ : Machine} {b₀ : L
       let f = runOf e r (length (s .places)) budget (started m₀) in
       ap finishIn (s .is ∙ call-accepted e r budget m₀ (s .places) h)
       ∙ ap (λ (g : List ℤ). record { ended = f .ended; call = record { machine = f .call .machine; steps = f .call .steps; taken = f .call .taken; given = g } })
-      (front-back (f .call .given) (s .places) (call-given e r budget m₀ (s .places)))
+      (outputs-first (f .call .given) (s .places) (call-given e r budget m₀ (s .places)))
 
   -- its outputs are as many as it wrote
   pub stretch-given : refusalOf e m₀ ≡ 0 → length (take written (s .outputs)) ≡ written
@@ -106,24 +103,20 @@ pub signed-of-length : (b : List ℕ) → length (signedOf b) ≡ length b / 4
 unfolding signedOf
 signed-of-length b = signed-length (length b / 4) b 0
 
-module _ (b₀ : List ℕ) (w : ℕ) {budget k : ℕ} (room : Lends (length b₀ / 4 - w) budget k) (places : List ℤ) (size : length places ≡ 1024) (e : Env) (ρ : List ℤ)
+module _ (b₀ : List ℕ) (w : ℕ) {budget k : ℕ} (room : Lends (length b₀ / 4 - w) budget k) (places : List ℤ) (fits : k ≤ length places) (e : Env) (ρ : List ℤ)
     (m₀ : Machine) {x : Ended} {m : Machine} {steps taken written : ℕ} {outs : List ℤ}
     (ran : outcome x m steps taken written outs ≡ callOf e ρ budget m₀ (take k places)) (kept : length outs ≡ length (take k places)) where
   -- so many places are lent
   lent : length (take k places) ≡ k
-  lent = sym (cut k 1024 places (room .fits) size)
+  lent = length-take-le k places fits
 
   -- what was written is within them
   few-written : written ≤ k
   few-written = omega (arith, ap (λ (o : Outcome). o .written) ran, call-written e ρ budget m₀ (take k places), lent)
 
-  -- they are put back in the array
-  pub whole-array : 1024 ≡ length (outs ++ drop k places)
-  whole-array = omega (arith, length-append outs (drop k places), length-drop k places, room .fits, kept, lent)
-
-  -- and fit the buffer
+  -- and fits the buffer
   pub store-fits : w ≤ length b₀ / 4 → (written ≤ length (outs ++ drop k places)) × (4 * w + 4 * written ≤ length b₀)
-  store-fits h = (omega (arith, few-written, whole-array, room .fits), omega (arith, few-written, room .within))
+  store-fits h = (omega (arith, few-written, length-append outs (drop k places), kept, lent), omega (arith, few-written, room .within))
 
   -- so it is a stretch
   pub stretch-is : (r : List ℕ) (t : ℕ) {n : ℕ} → Lends (length r / 4 - t) budget n → t ≤ length r / 4 → ρ ≡ signedFrom n r (4 * t) → {b : List ℕ}

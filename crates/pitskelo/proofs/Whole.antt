@@ -76,31 +76,29 @@ behind {e} {ρ} {left} {t} {m₀} {b₀} {x} {m} {steps} {taken} {written} {b} h
 
 module _ {e : Env} {ρ : List ℤ} {budget : ℕ} {m₀ : Machine} {b₀ : List ℕ} {x : Ended} {m : Machine} {steps taken written : ℕ} {b : List ℕ} where
   -- the first stretch of a machine that is refused
-  first-refused : StretchIs e ρ budget 0 0 m₀ b₀ x m steps taken written b → ¬ (refusalOf e m₀ ≡ 0) → Loop e ρ budget m₀ b₀ x m steps taken written b
+  first-refused : StretchIs e ρ (budget - 0) 0 0 m₀ b₀ x m steps taken written b → ¬ (refusalOf e m₀ ≡ 0) → Loop e ρ budget m₀ b₀ x m steps taken written b
   first-refused s n =
-      let q = s .is ∙ call-refused e (take (s .count) (drop 0 ρ)) budget m₀ (s .places) n in
+      let q = s .is ∙ call-refused e (take (s .count) (drop 0 ρ)) (budget - 0) m₀ (s .places) n in
       let w = ap (λ (o : Outcome). o .written) q in
       refused n (ap (λ (o : Outcome). o .ended) q) (ap (λ (o : Outcome). o .machine) q) (ap (λ (o : Outcome). o .steps) q) (ap (λ (o : Outcome). o .taken) q) w
       (s .stored ∙ none-stored b₀ (4 * 0) written (s .outputs) w)
 
   -- and of one that is not
-  first-accepted : StretchIs e ρ budget 0 0 m₀ b₀ x m steps taken written b → length (m₀ .cells) ≡ 256 → length (m₀ .marks) ≡ 256 → refusalOf e m₀ ≡ 0
+  first-accepted : StretchIs e ρ (budget - 0) 0 0 m₀ b₀ x m steps taken written b → length (m₀ .cells) ≡ 256 → length (m₀ .marks) ≡ 256 → refusalOf e m₀ ≡ 0
       → Loop e ρ budget m₀ b₀ x m steps taken written b
   unfolding signedBytes
   first-accepted s cells marks z =
       let room = length b₀ / 4 in
       let F = runOf e ρ room budget (started m₀) in
       let first = standing-first e ρ room budget m₀ z cells marks in
-      let all : budget ≡ budget - 0 = omega arith in
-      let s′ : StretchIs e ρ (budget - 0) 0 0 m₀ b₀ x m steps taken written b = subst (λ (n : ℕ). StretchIs e ρ n 0 0 m₀ b₀ x m steps taken written b) all s in
-      let given = take written (s′ .outputs) in
+      let given = take written (s .outputs) in
       let p : 0 + steps ≡ steps = omega arith in
       let q : 0 + taken ≡ taken = omega arith in
-      accepted z given (stretch-given s′ z) (next-stored e ρ budget F b₀ m₀ 0 0 [] b₀ first refl s′ refl)
-      (subst (λ (c : Call). Answered e ρ room budget F x c) (λ i. standsAt m (p i) (q i) given) (next-answered e ρ budget F b₀ m₀ 0 0 [] b₀ first refl s′))
+      accepted z given (stretch-given s z) (next-stored e ρ budget F b₀ m₀ 0 0 [] b₀ first refl s refl)
+      (subst (λ (c : Call). Answered e ρ room budget F x c) (λ i. standsAt m (p i) (q i) given) (next-answered e ρ budget F b₀ m₀ 0 0 [] b₀ first refl s))
 
   -- so before the first turn
-  pub loop-first : length (m₀ .cells) ≡ 256 → length (m₀ .marks) ≡ 256 → StretchIs e ρ budget 0 0 m₀ b₀ x m steps taken written b
+  pub loop-first : length (m₀ .cells) ≡ 256 → length (m₀ .marks) ≡ 256 → StretchIs e ρ (budget - 0) 0 0 m₀ b₀ x m steps taken written b
       → Loop e ρ budget m₀ b₀ x m steps taken written b
   loop-first cells marks s =
       bool-cases (eqb (refusalOf e m₀) 0) (λ h. first-accepted s cells marks (eqb-true _ _ h)) (λ h. first-refused s (eqb-false _ _ h))
@@ -110,6 +108,12 @@ module _ {e : Env} {ρ : List ℤ} {budget : ℕ} {m₀ : Machine} {b₀ : List 
   loop-within (refused n is k s t w h) = (omega arith, omega arith, omega arith, ap length h)
   loop-within (accepted z given count stored a) =
       (a .standing .steps, a .standing .taken, omega (arith, a .standing .given), ap length stored ∙ length-sets b₀ 0 (signedBytes given))
+
+  -- and the state its size
+  pub loop-sizes : Loop e ρ budget m₀ b₀ x m steps taken written b → length (m₀ .cells) ≡ 256 → length (m₀ .marks) ≡ 256
+      → (length (m .cells) ≡ 256) × (length (m .marks) ≡ 256)
+  loop-sizes (refused n is k s t w h) cells marks = rw k (cells, marks)
+  loop-sizes (accepted z given count stored a) cells marks = (a .standing .cells, a .standing .marks)
 
   -- where it does not go on it is the one run
   pub loop-done : Loop e ρ budget m₀ b₀ x m steps taken written b → goesOn x (length ρ) taken (length b₀ / 4) written ≡ false

@@ -1,13 +1,13 @@
 -- What a call of the C interface gives back, from an answer in document 01's terms: "A refusal is the number alone", and "a refusal alters nothing lent".
 -- Assumes nothing.
-use Prim.Native.Nat.{ℕ, zero, suc, _+_, _*_, _/_, _≤_}
+use Prim.Native.Nat.{ℕ, _*_, _/_, _≤_}
 use mathlib.Core.Path.{_≡_}
-use mathlib.Core.List.{List, [], _∷_}
+use mathlib.Core.List.{List}
 use mathlib.Core.Bool.{cond}
 use lib.ListN.{length, getD}
 use lib.Dec.{eqb}
-use Rattle.word.specs.Bytes.{loadOf}
 use Rattle.program.specs.Check.{Answer, answerOf, checkOf}
+use Rattle.layout.specs.Numbers.{numbersFrom}
 use Rattle.analysis.specs.Analyse as analysis
 use Rattle.analysis.specs.declared.Analysed.{Analysed}
 
@@ -20,14 +20,9 @@ pub record CheckCall (p : List ℕ) (before after : List ℕ) (result : ℕ) : T
   pub number : result ≡ answerOf (checkOf p) .number
   pub values : after ≡ leaves (answerOf (checkOf p)) before
 
--- n words of 64 bits, one behind the other from offset `at` on
-unfoldable pub wordsFrom : ℕ → List ℕ → ℕ → List ℕ
-wordsFrom zero b at = []
-wordsFrom (suc n) b at = loadOf 8 b at ∷ wordsFrom n b (at + 8)
-
 -- the words in a buffer of bytes: "The C side lends all of this as little-endian bytes; a rest too short for one number is left unused"
 unfoldable pub wordsOf : List ℕ → List ℕ
-wordsOf b = wordsFrom (length b / 8) b 0
+wordsOf b = numbersFrom 8 (length b / 8) b 0
 
 -- pitskelo_analyse: the result, and the two buffers d and s after the call from d₀ and s₀ before it. "Analyse checks too, then fills two lent buffers of
 -- 64-bit words"; a refused call leaves every byte, any call the bytes behind the last whole word

@@ -8,7 +8,9 @@ use lib.ListN.{length, take}
 use lib.Seq.{sets}
 use lib.Dec.{eqb, ltb}
 use Rattle.program.specs.Check.{checkOf}
+use Rattle.program.specs.Places.{Places}
 use Rattle.machine.specs.State.{envOf}
+use Rattle.machine.specs.Ready.{Legal}
 use Rattle.machine.specs.Run.{numberOf, Outcome, callOf, answerOf}
 use Rattle.recovery.specs.Recover as recovery
 use Rattle.recovery.specs.Recover.{Recovers}
@@ -22,6 +24,11 @@ setsIn b = numbersFrom 8 (min (length b / 8) 512) b 0
 -- "a state of another length .. gives 10", at its place in the order: behind the plan's refusals and 9
 unfoldable pub oddState : (p sets : List ℕ) → ℕ
 oddState p sets = let n = numberOf (checkOf p) in cond (eqb n 0) (cond (ltb (length sets / 8) 512) 9 10) n
+
+-- the number of the plan's refusal, and where there is none its table of places
+pub record PlanIs (p : List ℕ) (n : ℕ) (table : List ℕ) : Type 0 where
+  pub number : n ≡ numberOf (checkOf p)
+  pub accepted : n ≡ 0 → Legal p × Places p table
 
 -- what a run of the bytes is lent
 pub record RunLent : Type 0 where

@@ -17,7 +17,6 @@ use Rattle.layout.specs.Numbers.{signedBytes}
 -- n of the rest, and some where there are some and the budget is not spent
 pub record Lends (rest budget n : ℕ) : Type 0 where
   pub within : n ≤ rest
-  pub fits : n ≤ 1024
   pub some : 0 < rest → 0 < budget → 0 < n
 
 -- the run goes on where the machine wants a reading and one is left, or a place

@@ -5,10 +5,16 @@ mod run;
 mod words;
 
 use analysis::Analysed;
+use layout::load_cells;
+use layout::load_marks;
+use layout::load_regs;
 use layout::load_state;
 use layout::load_words;
+use layout::store_parts;
 use layout::store_state;
 use program::Checked;
+use program::examine;
+use program::places::blank;
 use recovery::Recovered;
 use recovery::recover_value;
 use run::kind;
@@ -20,9 +26,10 @@ ghost use Prim.Native.Nat.{_/_, _≤_, min};
 ghost use lib.ListN.{length};
 ghost use Rattle.pitskelo.specs.Calls.{CheckCall, AnalyseCall};
 ghost use mathlib.Core.Path.{_≡_};
+ghost use Rattle.program.specs.Places.{Blank};
 ghost use Rattle.recovery.specs.Recover as recovering;
 ghost use Rattle.pitskelo.specs.Storing.{BothStored};
-ghost use Rattle.pitskelo.specs.Runs.{oddState, runCallOf, RecoverCall};
+ghost use Rattle.pitskelo.specs.Runs.{oddState, PlanIs, runCallOf, RecoverCall};
 
 // Checks a plan and gives its numbers of cells, commands and EXCLUDEs.
 #[no_mangle]
@@ -149,6 +156,21 @@ pub extern "C" fn pitskelo_recover(plan: &[u8], sets: &[u8], chip: &[u8], state:
     0
 }
 
+// The refusal of a plan, 0 where it is accepted and the table, blank before, has its places.
+fn plan_refusal(plan: &[u8], table: &mut [u8; 2048]) -> u32
+    requires { ⌜ Blank (now table) ⌝ }
+    ensures { λ r. ⌜ PlanIs (now (plan .entry)) r (now (table .exit)) ⌝ }
+{
+    match examine(plan, table) {
+        Checked::Refused(number) => number,
+        Checked::Program {
+            cells: _,
+            instructions: _,
+            excludes: _,
+        } => 0,
+    }
+}
+
 // Runs the plan from the lent state for at most `budget` steps.
 #[no_mangle]
 pub extern "C" fn pitskelo_run(
@@ -169,12 +191,22 @@ pub extern "C" fn pitskelo_run(
     if state.len() != 1312 {
         return odd_state(plan, sets);
     }
+    let mut table = blank();
+    let number = plan_refusal(plan, &mut table);
+    if number != 0 {
+        return number;
+    }
     let n = word_count(sets);
     let words = load_words(sets, n);
+    let mut cells = load_cells(state);
+    let mut marks = load_marks(state);
     let ran = run_all(
-        load_state(state),
+        load_regs(state),
         plan,
+        &table,
         &words[..n],
+        &mut cells,
+        &mut marks,
         chip,
         readings,
         outputs,
@@ -185,11 +217,11 @@ pub extern "C" fn pitskelo_run(
     if number != 0 {
         return number;
     }
-    let left = ran.state;
-    store_state(state, left);
+    let pass = ran.pass;
+    store_parts(state, pass.regs, &cells[..], &marks[..]);
     *ended = kind(end);
-    *steps = ran.steps;
-    *taken = ran.taken as u64;
-    *given = ran.written as u64;
+    *steps = pass.steps;
+    *taken = pass.taken as u64;
+    *given = pass.written as u64;
     0
 }

@@ -3,17 +3,16 @@
 use mathlib.Core.Path.{_≡_, refl, sym, _∙_}
 use mathlib.Core.List.{List, [], _∷_}
 use mathlib.Core.Bool.{false, cond}
-use Prim.Native.Nat.{ℕ, zero, suc, _+_, _≤_, _<_}
+use Prim.Native.Nat.{ℕ, zero, suc, _+_, _≤_, _<_, min}
 use native.Mathlib.Omega.{arith}
 use lib.ListN.{length, getD, set, length-set, replicate, length-replicate}
 use lib.Seq.{getD-set-same, getD-set-other}
 use lib.Dec.{ltb, eqb}
 use borrow.Author.Tests.{ltb-true, ltb-false, eqb-true, eqb-false, ne-eqb, eq-eqb}
 use Rattle.instruction.specs.Bytes.{byte, lengthOf}
-use Rattle.program.specs.Starts.{startsFrom, starts, firstRefusal, excludes, among}
-use Rattle.program.specs.Places.{opcodeBefore, excludesBefore, placeFrom, placeOf, entryAt, Places}
+use Rattle.program.specs.Starts.{startsFrom, starts, among}
+use Rattle.program.specs.Places.{opcodeBefore, excludesBefore, placeFrom, placeOf, entryAt, Places, Blank}
 use Rattle.program.proofs.Tests.{bool-cases}
-use Rattle.program.proofs.Walks.{sound-next}
 
 -- no instruction starts past the end, nor before the offset where the list begins
 pub none-past : (p : List ℕ) (f o t : ℕ) → length p ≤ t → among t (startsFrom f p o) ≡ false
@@ -52,11 +51,9 @@ place-none : (p : List ℕ) (k e : ℕ) (os : List ℕ) (t : ℕ) → among t os
 unfolding placeIn
 place-none p k e os t h = rw h
 
--- `places`: at the turn's offset; k is the opcode before it and e the number of EXCLUDEs before it
+-- `walk`: at the turn's offset; k is the opcode before it and e the number of EXCLUDEs before it
 pub record Filling (p m : List ℕ) (k e at : ℕ) (os : List ℕ) : Type 0 where
-  pub sound : firstRefusal p os ≡ 0
   pub size : length m ≡ 2048
-  pub count : excludes p (starts p) ≡ e + excludes p os
   pub done : (t : ℕ) → t < at → getD m t 0 ≡ placeOf p t
   pub clear : (t : ℕ) → at ≤ t → getD m t 0 ≡ 0
   pub todo : (t : ℕ) → at ≤ t → placeOf p t ≡ placeIn p k e os t
@@ -70,14 +67,16 @@ zeros zero t = refl
 zeros (suc n) zero = refl
 zeros (suc n) (suc t) = zeros n t
 
-pub filling-first : (p : List ℕ) → firstRefusal p (starts p) ≡ 0 → Filling p (replicate 2048 0) 0 0 1 (starts p)
+-- 2,048 zeros are a table with no place in it
+pub blank-zeros : Blank (replicate 2048 0)
+blank-zeros = record { size = length-replicate {A = ℕ} 2048 0; clear = zeros 2048 }
+
+pub filling-first : (p : List ℕ) {m : List ℕ} → Blank m → Filling p m 0 0 1 (starts p)
 unfolding starts
-filling-first p h = record {
-  sound = h;
-  size = length-replicate {A = ℕ} 2048 0;
-  count = omega arith;
-  done = λ t l. zeros 2048 t ∙ sym (place-first p t ∙ place-none p 0 0 (starts p) t (none-before p (length p) 1 t l));
-  clear = λ t l. zeros 2048 t;
+filling-first p b = record {
+  size = b .size;
+  done = λ t l. b .clear t ∙ sym (place-first p t ∙ place-none p 0 0 (starts p) t (none-before p (length p) 1 t l));
+  clear = λ t l. b .clear t;
   todo = λ t l. place-first p t;
 }
 
@@ -101,20 +100,18 @@ module _ (p m : List ℕ) (k e at n v x : ℕ) (os : List ℕ) (q : Filling p m 
       (λ c. let ge : at ≤ t = ltb-false _ _ c in q .clear t ge ∙ sym (later t (omega arith) ∙ place-none p (byte p at) (e + x) os t (none t l))))
 
   filled-turn : Filling p (set m at v) (byte p at) (e + x) (at + n) os
-  unfolding excludes
   filled-turn = record {
-    sound = sound-next p at os (q .sound) .1;
     size = rw length-set (q .size);
-    count = rw ex (omega (arith, q .count));
     done = filled;
     clear = λ t l. getD-set-other m at t v 0 (λ d. omega arith) ∙ q .clear t (omega arith);
     todo = λ t l. later t (omega arith);
   }
 
-pub filling-turn : (p m : List ℕ) (f : ℕ) {k e at n v x : ℕ} → at < 2048 → 0 < n → v ≡ placeFrom k (byte p at) e → x ≡ cond (eqb (byte p at) 0x0D) 1 0
-    → Filling p m k e at (at ∷ startsFrom f p (at + n)) → Filling p (set m at v) (byte p at) (e + x) (at + n) (startsFrom f p (at + n))
-filling-turn p m f {k} {e} {at} {n} {v} {x} low some ev ex q =
-    filled-turn p m k e at n v x (startsFrom f p (at + n)) q low some ev ex (none-before p f (at + n))
+pub filling-turn : (p m : List ℕ) (f : ℕ) {k e at n v x : ℕ} → at < 2048 → 0 < n → e ≤ 64 → v ≡ placeFrom k (byte p at) (min e 64)
+    → x ≡ cond (eqb (byte p at) 0x0D) 1 0 → Filling p m k e at (at ∷ startsFrom f p (at + n)) → Filling p (set m at v) (byte p at) (e + x) (at + n) (startsFrom f p (at + n))
+filling-turn p m f {k} {e} {at} {n} {v} {x} low some few ev ex q =
+    let z : min e 64 ≡ e = omega arith in
+    filled-turn p m k e at n v x (startsFrom f p (at + n)) q low some (rw z at ev) ex (none-before p f (at + n))
 
 -- the loop is left: every offset has its byte, those past the end too
 pub filling-done : (p m : List ℕ) {k e at : ℕ} → length p ≤ 2048 → Filling p m k e at [] → Places p m
@@ -126,9 +123,3 @@ filling-done p m {k} {e} {at} most q t =
     (λ c. q .done t (ltb-true _ _ c))
     (λ c. let ge : at ≤ t = ltb-false _ _ c in q .clear t ge ∙ sym (q .todo t ge ∙ place-none p k e [] t refl))))
     (λ b. let ge : 2048 ≤ t = ltb-false _ _ b in rw (b, none-past p (length p) 1 t (omega arith)))
-
--- the EXCLUDEs before the offset, and with it, are no more than all
-pub exclude-room : (p m : List ℕ) {k e at : ℕ} {os : List ℕ} → excludes p (starts p) ≤ 64 → Filling p m k e at (at ∷ os)
-    → (e ≤ 64) × (e + cond (eqb (byte p at) 0x0D) 1 0 ≤ 64)
-unfolding excludes
-exclude-room p m few q = let n = q .count in (omega arith, omega arith)

@@ -3,10 +3,13 @@ pub mod Reading
 pub mod Left
 pub mod Walks
 pub mod Filling
+pub mod Noting
+pub mod Turns
 pub mod PlaceLaws
 pub mod Deciding
 pub mod Grounds
 pub mod Accepted
+pub mod Examining
 pub mod AfterLaws
 pub mod CellLaws
 pub mod Examples

@@ -1,15 +1,15 @@
 -- What a byte of the table of places says of the program.
 -- Assumes nothing.
-use mathlib.Core.Path.{_≡_, refl}
-use mathlib.Core.List.{List, [], _∷_}
+use mathlib.Core.Path.{_≡_}
+use mathlib.Core.List.{List}
 use mathlib.Core.Bool.{Bool, true, false, cond}
-use Prim.Native.Nat.{ℕ, _+_, _-_, _*_, _%_}
+use Prim.Native.Nat.{ℕ, _+_, _*_, _%_}
 use native.Mathlib.Omega.{arith}
 use lib.Dec.{eqb}
 use borrow.Author.Tests.{eq-eqb, ne-eqb}
 use Rattle.instruction.specs.Bytes.{byte}
-use Rattle.program.specs.Starts.{starts, allAmong}
-use Rattle.program.specs.Places.{opcodeBefore, isStart, afterCheckpoint, isExclude, excludeNumber, placeOf, entryAt, startHere, afterHere, excludeHere, readPlace, allPlaced, Places}
+use Rattle.program.specs.Starts.{starts}
+use Rattle.program.specs.Places.{opcodeBefore, isStart, afterCheckpoint, isExclude, excludeNumber, placeOf, entryAt, startHere, afterHere, excludeHere, readPlace, placed, Places}
 use Rattle.program.proofs.Tests.{bool-cases}
 
 -- of the byte of a start, by its three parts
@@ -46,10 +46,9 @@ unfolding placeOf
 place-exclude p t =
     bool-cases (isStart p t) (λ b. rw b (exclude-from (eqb (opcodeBefore p 0 (starts p) t) 0x0E) (eqb (byte p t) 0x0D) (excludeNumber p t))) (λ b. rw b)
 
--- offsets that the table has as starts are starts
-pub all-placed : (p table : List ℕ) → Places p table → (ts : List ℕ) → allPlaced ts table ≡ allAmong ts (starts p)
-all-placed p table h [] = refl
-all-placed p table h (t ∷ ts) = rw (h t, place-start p t, all-placed p table h ts)
+-- an offset that the table has as a start is one
+pub placed-start : (p table : List ℕ) → Places p table → (t : ℕ) → placed table t ≡ isStart p t
+placed-start p table h t = rw (h t) (place-start p t)
 
 -- all that the table has of an offset
 pub place-read : (p table : List ℕ) → Places p table → (t : ℕ)

@@ -1,8 +1,8 @@
--- What the loops over the instructions keep: a property of the offsets to come, and what one turn makes of it.
+-- Instructions with no refusal, and what the walk over the instructions counts: a property of the offsets to come, and what one turn makes of it.
 -- Assumes nothing.
-use mathlib.Core.Path.{_≡_, refl, sym, _∙_}
+use mathlib.Core.Path.{_≡_, refl}
 use mathlib.Core.List.{List, [], _∷_}
-use mathlib.Core.Bool.{Bool, true, false, cond, _&&_}
+use mathlib.Core.Bool.{false, cond}
 use Prim.Native.Nat.{ℕ, _+_, _≤_, _<_}
 use native.Mathlib.Omega.{arith}
 use lib.ListN.{length}
@@ -10,11 +10,9 @@ use lib.Dec.{ltb, eqb}
 use borrow.Author.Tests.{ltb-false, eqb-true, eqb-false, ne-eqb}
 use Rattle.instruction.specs.Bytes.{byte, lengthOf, instructionAt}
 use Rattle.instruction.specs.Table.{rowOf, targets}
-use Rattle.program.specs.Starts.{starts, refusalAt, firstRefusal, excludes, lastOpcode, allAmong, jumpsAmong}
+use Rattle.program.specs.Starts.{starts, refusalAt, firstRefusal, excludes, lastOpcode, jumpCount}
 use Rattle.program.specs.Check.{walkOf}
-use Rattle.instruction.specs.declared.Instruction.{Instruction}
-use Rattle.instruction.specs.declared.Flow.{Flow}
-use Rattle.program.specs.declared.Walked.the-variants.{All, Bad}
+use Rattle.program.specs.declared.Walked.the-variants.{All}
 use Rattle.program.proofs.Tests.{bool-cases}
 
 -- an instruction with no refusal has a length, and ends within the program
@@ -37,61 +35,36 @@ sound-next p o os h =
 pub whole-by : (p : List ℕ) (at : ℕ) {n : ℕ} → n ≡ lengthOf (byte p at) → refusalAt p at ≡ 0 → (0 < n) × (at + n ≤ length p)
 whole-by p at e h = rw e (whole p at h)
 
--- `walk`: n instructions passed, e of them EXCLUDE, k the last one's opcode
-pub record Walking (p : List ℕ) (n e k : ℕ) (os : List ℕ) : Type 0 where
+-- `walk`: n instructions passed, e of them EXCLUDE, k the last one's opcode, j their targets
+pub record Walking (p : List ℕ) (n e k j : ℕ) (os : List ℕ) : Type 0 where
   pub bad : firstRefusal p (starts p) ≡ firstRefusal p os
   pub count : length (starts p) ≡ n + length os
   pub marks : excludes p (starts p) ≡ e + excludes p os
   pub final : lastOpcode p 0 (starts p) ≡ lastOpcode p k os
+  pub jumps : jumpCount p (starts p) ≡ j + jumpCount p os
 
-pub walking-first : (p : List ℕ) → Walking p 0 0 0 (starts p)
-walking-first p = record { bad = refl; count = omega arith; marks = omega arith; final = refl }
+pub walking-first : (p : List ℕ) → Walking p 0 0 0 0 (starts p)
+walking-first p = record { bad = refl; count = omega arith; marks = omega arith; final = refl; jumps = omega arith }
 
-pub walking-turn : (p : List ℕ) (at : ℕ) {n e k x : ℕ} (os : List ℕ) → refusalAt p at ≡ 0 → x ≡ cond (eqb (byte p at) 0x0D) 1 0
-    → Walking p n e k (at ∷ os) → Walking p (n + 1) (e + x) (byte p at) os
-unfolding firstRefusal excludes lastOpcode
-walking-turn p at os r ex w =
+pub walking-turn : (p : List ℕ) (at : ℕ) {n e k j x y : ℕ} (os : List ℕ) → refusalAt p at ≡ 0 → x ≡ cond (eqb (byte p at) 0x0D) 1 0
+    → y ≡ j + length (targets (rowOf (instructionAt p at) .flow)) → Walking p n e k j (at ∷ os) → Walking p (n + 1) (e + x) (byte p at) y os
+unfolding firstRefusal excludes lastOpcode jumpCount
+walking-turn p at os r ex ey w =
     let m = w .marks in
     let c = w .count in
-    rw ex (record { bad = rw r at (w .bad); count = omega arith; marks = omega arith; final = w .final })
+    let t = w .jumps in
+    rw (ex, ey) (record { bad = rw r at (w .bad); count = omega arith; marks = omega arith; final = w .final; jumps = omega arith })
 
-pub walking-bad : (p : List ℕ) (at : ℕ) {n e k no : ℕ} (os : List ℕ) → no ≡ refusalAt p at → (no ≡ 0 → ⊥)
-    → Walking p n e k (at ∷ os) → Bad no ≡ walkOf p
+-- the first refusal is met here
+pub walking-bad : (p : List ℕ) (at : ℕ) {n e k j no : ℕ} (os : List ℕ) → no ≡ refusalAt p at → (no ≡ 0 → ⊥)
+    → Walking p n e k j (at ∷ os) → firstRefusal p (starts p) ≡ no
 unfolding firstRefusal
-walking-bad p at {n} {e} {k} {no} os er ne w =
-    let q : eqb (refusalAt p at) 0 ≡ false = rw (← er) (ne-eqb _ _ ne) in
-    let b : firstRefusal p (starts p) ≡ no = rw (q, ← er) at (w .bad) in
-    rw (b, ne-eqb _ _ ne)
+walking-bad p at {n} {e} {k} {j} {no} os er ne w = let q : eqb (refusalAt p at) 0 ≡ false = rw (← er) (ne-eqb _ _ ne) in rw (q, ← er) at (w .bad)
 
-pub walking-done : (p : List ℕ) {n e k : ℕ} → Walking p n e k [] → All n e k ≡ walkOf p
-unfolding firstRefusal excludes lastOpcode
-walking-done p {n} {e} {k} w =
+pub walking-done : (p : List ℕ) {n e k j : ℕ} → Walking p n e k j [] → All n e k j ≡ walkOf p
+unfolding firstRefusal excludes lastOpcode jumpCount
+walking-done p {n} {e} {k} {j} w =
     let c : length (starts p) ≡ n = omega (arith, w .count) in
     let m : excludes p (starts p) ≡ e = omega (arith, w .marks) in
-    rw (w .bad, c, m, w .final)
-
--- `jumps_start`: the answer over all offsets is the answer over those to come
-pub record Jumping (p : List ℕ) (os : List ℕ) : Type 0 where
-  pub sound : firstRefusal p os ≡ 0
-  pub same : jumpsAmong p (starts p) (starts p) ≡ jumpsAmong p (starts p) os
-
-pub jumping-first : (p : List ℕ) → firstRefusal p (starts p) ≡ 0 → Jumping p (starts p)
-jumping-first p h = record { sound = h; same = refl }
-
--- b is whether the instruction at this offset jumps to starts
-jump-at : (p : List ℕ) (at : ℕ) {i : Instruction} {f : Flow} {b : Bool} → i ≡ instructionAt p at → f ≡ rowOf i .flow → b ≡ allAmong (targets f) (starts p)
-    → (os : List ℕ) → jumpsAmong p (starts p) (at ∷ os) ≡ (b && jumpsAmong p (starts p) os)
-unfolding jumpsAmong
-jump-at p at ei ef eb os = rw (eb, ef, ei)
-
-module _ (p : List ℕ) (at : ℕ) {i : Instruction} {f : Flow} {b : Bool}
-    (ei : i ≡ instructionAt p at) (ef : f ≡ rowOf i .flow) (eb : b ≡ allAmong (targets f) (starts p)) where
-  pub jumping-turn : b ≡ true → (os : List ℕ) → Jumping p (at ∷ os) → Jumping p os
-  jumping-turn h os j = record { sound = sound-next p at os (j .sound) .1; same = j .same ∙ rw (jump-at p at ei ef eb os, h) }
-
-  pub jumping-bad : b ≡ false → (os : List ℕ) → Jumping p (at ∷ os) → false ≡ jumpsAmong p (starts p) (starts p)
-  jumping-bad h os j = sym (j .same ∙ rw (jump-at p at ei ef eb os, h))
-
-pub jumping-done : (p : List ℕ) → Jumping p [] → true ≡ jumpsAmong p (starts p) (starts p)
-unfolding jumpsAmong
-jumping-done p j = sym (j .same)
+    let t : jumpCount p (starts p) ≡ j = omega (arith, w .jumps) in
+    rw (w .bad, c, m, w .final, t)

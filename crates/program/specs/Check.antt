@@ -1,12 +1,14 @@
 -- The check of a program: document 01, "Refused inputs". "Rising order, but 2 to 5 are tried command by command."
 -- Assumes nothing.
-use Prim.Native.Nat.{ℕ}
+use Prim.Native.Nat.{ℕ, _≤_}
+use mathlib.Core.Path.{_≡_}
 use mathlib.Core.List.{List, [], _∷_}
 use mathlib.Core.Bool.{Bool, cond, _||_, not}
 use lib.ListN.{length}
 use lib.Dec.{ltb, eqb}
 use Rattle.instruction.specs.Bytes.{cellsOf}
-use Rattle.program.specs.Starts.{starts, firstRefusal, excludes, lastOpcode, jumpsAmong}
+use Rattle.program.specs.Starts.{starts, firstRefusal, excludes, lastOpcode, jumpsAmong, jumpCount, allFirst}
+use Rattle.program.specs.Places.{isStart, Decodes, Places}
 use Rattle.program.specs.declared.Checked.{Checked}
 use Rattle.program.specs.declared.Checked.the-variants.{Program, Refused}
 use Rattle.program.specs.declared.Walked.{Walked}
@@ -39,5 +41,12 @@ checkOf p =
 abbrev pub walkOf : List ℕ → Walked
 walkOf p =
     cond (eqb (firstRefusal p (starts p)) 0)
-    (All (length (starts p)) (excludes p (starts p)) (lastOpcode p 0 (starts p)))
+    (All (length (starts p)) (excludes p (starts p)) (lastOpcode p 0 (starts p)) (jumpCount p (starts p)))
     (Bad (firstRefusal p (starts p)))
+
+-- what it finds and leaves: of a program with no refusal so far the targets, first in ts, and its places in the table where the table's bytes hold them
+pub record Walks (p : List ℕ) (r : Walked) (table ts : List ℕ) : Type 0 where
+  pub is : r ≡ walkOf p
+  pub noted : firstRefusal p (starts p) ≡ 0
+      → (jumpCount p (starts p) ≤ 683) × (jumpsAmong p (starts p) (starts p) ≡ allFirst (isStart p) (jumpCount p (starts p)) ts)
+  pub places : Decodes p → Places p table

@@ -11,7 +11,9 @@ use Rattle.instruction.specs.Bytes.{byte, cellsOf, lengthOf, instructionAt}
 use Rattle.instruction.specs.Table.{named, allBelow, tableFits}
 use Rattle.program.specs.Starts.{starts, excludes, lastOpcode, jumpsAmong}
 use Rattle.program.specs.Check.{Answer, answerOf, closes, checkOf}
+use Rattle.program.specs.Places.{Places}
 use Rattle.program.specs.declared.Checked.{Checked}
+use Rattle.program.specs.declared.Checked.the-variants.{Program}
 
 -- of the instruction at o: 2 "unknown command byte", 3 "operands pass the end", 4 "a cell doesn't exist (base aside)",
 -- 5 "len 0, or table passes the last cell"
@@ -44,3 +46,8 @@ pub data Ruled (p : List ℕ) : Answer → Type 0 where
 pub record Checks (p : List ℕ) (r : Checked) : Type 0 where
   pub is : r ≡ checkOf p
   pub ruled : Ruled p (answerOf r)
+
+-- what examine promises of its answer and of the table
+pub record Examines (p : List ℕ) (r : Checked) (table : List ℕ) : Type 0 where
+  pub checks : Checks p r
+  pub places : (cells instructions excludes : ℕ) → r ≡ Program cells instructions excludes → Places p table

@@ -4,7 +4,7 @@
 use Prim.Native.Nat.{ℕ, _+_, _-_, _*_, _/_, _%_, _≤_}
 use mathlib.Core.Path.{_≡_}
 use mathlib.Core.List.{List, [], _∷_}
-use mathlib.Core.Bool.{Bool, true, cond, _&&_, not}
+use mathlib.Core.Bool.{Bool, cond, _&&_, not}
 use lib.ListN.{length, getD}
 use lib.Dec.{ltb, eqb}
 use Rattle.instruction.specs.Bytes.{byte}
@@ -67,10 +67,14 @@ excludeHere b = (b - 1) / 2
 unfoldable pub readPlace : ℕ → Place
 readPlace b = record { start = startHere b; after = afterHere b; exclude = excludeHere b }
 
--- each of the offsets ts is a start
-abbrev pub allPlaced : List ℕ → List ℕ → Bool
-allPlaced [] table = true
-allPlaced (t ∷ ts) table = startHere (entryAt table t) && allPlaced ts table
+-- the table has an instruction at offset t
+abbrev pub placed : List ℕ → ℕ → Bool
+placed table t = startHere (entryAt table t)
+
+-- a table of 2,048 bytes with no place in it
+pub record Blank (table : List ℕ) : Type 0 where
+  pub size : length table ≡ 2048
+  pub clear : (t : ℕ) → getD table t 0 ≡ 0
 
 -- the program's instructions are whole, and few enough that the bytes of the table hold their numbers
 pub record Decodes (p : List ℕ) : Type 0 where

@@ -3,10 +3,12 @@
 use Prim.Native.Nat.{ℕ, zero, suc, _+_}
 use mathlib.Core.List.{List, [], _∷_}
 use mathlib.Core.Bool.{Bool, true, false, cond, _&&_, _||_, not}
-use lib.ListN.{length}
+use lib.ListN.{length, getD, set}
 use lib.Dec.{ltb, eqb}
 use Rattle.instruction.specs.Bytes.{byte, cellsOf, lengthOf, instructionAt}
 use Rattle.instruction.specs.Table.{rowOf, targets, named, allBelow, tableFits}
+use Rattle.instruction.specs.declared.Flow.{Flow}
+use Rattle.instruction.specs.declared.Flow.the-variants.{Halt, Next, Goto, Branch}
 
 -- the offsets of at most f instructions, from o to the program's end
 unfoldable pub startsFrom : ℕ → List ℕ → ℕ → List ℕ
@@ -55,3 +57,20 @@ lastOpcode p k (o ∷ os) = lastOpcode p (byte p o) os
 unfoldable pub jumpsAmong : List ℕ → List ℕ → List ℕ → Bool
 jumpsAmong p xs [] = true
 jumpsAmong p xs (o ∷ os) = allAmong (targets (rowOf (instructionAt p o) .flow)) xs && jumpsAmong p xs os
+
+-- how many targets the instructions at these offsets have
+unfoldable pub jumpCount : List ℕ → List ℕ → ℕ
+jumpCount p [] = 0
+jumpCount p (o ∷ os) = length (targets (rowOf (instructionAt p o) .flow)) + jumpCount p os
+
+-- the first n targets are in ts: those of one more instruction stand behind them
+abbrev pub noteOf : Flow → ℕ → List ℕ → List ℕ
+noteOf Halt n ts = ts
+noteOf Next n ts = ts
+noteOf (Goto t) n ts = set ts n t
+noteOf (Branch t) n ts = set ts n t
+
+-- the first n of the numbers ts meet a test
+unfoldable pub allFirst : (ℕ → Bool) → ℕ → List ℕ → Bool
+allFirst f zero ts = true
+allFirst f (suc n) ts = allFirst f n ts && f (getD ts n 0)

@@ -4,11 +4,9 @@
 use crate::rules::same_byte;
 use instruction::opcodes::CHECKPOINT;
 use instruction::opcodes::EXCLUDE;
-use instruction::opcodes::length_in;
-use instruction::opcodes::length_table;
 ghost use mathlib.Core.Path.{_≡_};
-ghost use Prim.Native.Nat.{_≤_};
-ghost use Rattle.program.specs.Places.{placeFrom, Decodes, Places, entryAt, readPlace};
+ghost use Prim.Native.Nat.{min};
+ghost use Rattle.program.specs.Places.{placeFrom, entryAt, Blank, readPlace};
 
 // What stands at an offset: whether an instruction starts there, whether it is the offset after a
 // CHECKPOINT, and of an EXCLUDE its number and 1, else 0.
@@ -18,36 +16,26 @@ pub struct Place {
     pub exclude: u8,
 }
 
-// The table's byte at a start, from the opcode before it, its own, and the EXCLUDEs before it.
-fn place_from(before: u8, opcode: u8, number: u8) -> u8
-    requires { ⌜ number ≤ 64 ⌝ }
-    ensures { λ r. ⌜ r ≡ placeFrom before opcode number ⌝ }
+// A table with no place in it.
+pub fn blank() -> [u8; 2048]
+    ensures { λ r. ⌜ Blank r ⌝ }
 {
-    let after = same_byte(before, CHECKPOINT);
-    if opcode == EXCLUDE {
-        return 1 + after + 2 * (number + 1);
-    }
-    1 + after
+    [0u8; 2048]
 }
 
-// The table of a program whose instructions are whole.
-pub fn places(p: &[u8]) -> [u8; 2048]
-    requires { ⌜ Decodes (now p) ⌝ }
-    ensures { λ r. ⌜ Places (now (p .entry)) r ⌝ }
+// The table's byte at a start, from the opcode before it, its own, and the EXCLUDEs before it. More of
+// these than 64 come in refused programs alone, and count as 64 so that a byte holds them.
+pub(crate) fn place_from(before: u8, opcode: u8, number: u32) -> u8
+    ensures { λ r. ⌜ r ≡ placeFrom before opcode (min number 64) ⌝ }
 {
-    let lengths = length_table();
-    let mut table = [0u8; 2048];
-    let mut at: usize = 1;
-    let mut before: u8 = 0;
-    let mut number: u8 = 0;
-    while at < p.len() {
-        let opcode = p[at];
-        table[at] = place_from(before, opcode, number);
-        number += same_byte(opcode, EXCLUDE);
-        before = opcode;
-        at += length_in(&lengths, opcode);
+    let after = same_byte(before, CHECKPOINT);
+    if opcode != EXCLUDE {
+        return 1 + after;
     }
-    table
+    if 64 < number {
+        return 1 + after + 2 * 65;
+    }
+    1 + after + 2 * (number as u8 + 1)
 }
 
 // What a byte of the table says.

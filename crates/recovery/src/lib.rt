@@ -10,14 +10,15 @@ use machine::Regs;
 use machine::State;
 use marks::recover;
 use program::Checked;
+use program::examine;
+use program::places::blank;
 use program::places::place_at;
-use program::places::places;
 ghost use mathlib.Core.Path.{_≡_};
 ghost use mathlib.Core.Bool.{true};
 ghost use mathlib.Core.Logic.{_⊎_};
 ghost use Prim.Native.Nat.{_≤_};
 ghost use Rattle.instruction.specs.Bytes.{cellsOf};
-ghost use Rattle.program.specs.Places.{isExclude};
+ghost use Rattle.program.specs.Places.{Places, isExclude};
 ghost use Rattle.machine.specs.State.{envOf, machineOf};
 ghost use Rattle.machine.specs.Ready.{Legal, Ready};
 ghost use Rattle.recovery.specs.Recover.{regsOf, marksBy, outcome, Recovers};
@@ -79,8 +80,15 @@ fn marks_by(program: &[u8], table: &[u8; 2048], sets: &[u64], x: usize) -> [u8; 
 }
 
 // The recovery for an accepted program of n cells, which the other refusals may still prevent.
-fn recover_legal(state: State, program: &[u8], sets: &[u64], journal: &[u8], n: usize) -> Recovery
-    requires { ⌜ Legal (now program) × (cellsOf (now program) ≡ n) ⌝ }
+fn recover_legal(
+    state: State,
+    program: &[u8],
+    table: &[u8; 2048],
+    sets: &[u64],
+    journal: &[u8],
+    n: usize,
+) -> Recovery
+    requires { ⌜ Legal (now program) × Places (now program) (now table) × (cellsOf (now program) ≡ n) ⌝ }
     ensures { λ r. ⌜ Recovers (envOf (now (program .entry)) (now (sets .entry))) (machineOf (state .regs) (state .cells) (state .marks) (now (journal .entry))) (outcome (r .answer) (machineOf (r .state .regs) (r .state .cells) (r .state .marks) (now (journal .entry)))) ⌝ }
 {
     if sets.len() < 512 {
@@ -89,15 +97,14 @@ fn recover_legal(state: State, program: &[u8], sets: &[u64], journal: &[u8], n: 
     if 65536 < journal.len() {
         return refused(state, 11);
     }
-    let table = places(program);
-    let contents = scan(journal, n, &table);
+    let contents = scan(journal, n, table);
     let answer = contents.answer;
     let cells = contents.values;
     match answer {
         Scanned::Damaged => refused(state, 12),
         Scanned::Found { end, torn, last } => {
             let regs = regs_of(end, torn, last);
-            let marks = marks_by(program, &table, sets, last.exclude as usize);
+            let marks = marks_by(program, table, sets, last.exclude as usize);
             Recovery {
                 state: State { regs, cells, marks },
                 answer: Recovered::Restored,
@@ -110,12 +117,13 @@ fn recover_legal(state: State, program: &[u8], sets: &[u64], journal: &[u8], n: 
 pub fn recover_value(state: State, program: &[u8], sets: &[u64], journal: &[u8]) -> Recovery
     ensures { λ r. ⌜ Recovers (envOf (now (program .entry)) (now (sets .entry))) (machineOf (state .regs) (state .cells) (state .marks) (now (journal .entry))) (outcome (r .answer) (machineOf (r .state .regs) (r .state .cells) (r .state .marks) (now (journal .entry)))) ⌝ }
 {
-    match program::check(program) {
+    let mut table = blank();
+    match examine(program, &mut table) {
         Checked::Refused(number) => refused(state, number),
         Checked::Program {
             cells,
             instructions: _,
             excludes: _,
-        } => recover_legal(state, program, sets, journal, cells as usize),
+        } => recover_legal(state, program, &table, sets, journal, cells as usize),
     }
 }

@@ -7,13 +7,14 @@ use mathlib.Core.List.{List, [], _∷_}
 use mathlib.Core.Logic.{_⊎_, inl, inr}
 use native.Mathlib.Omega.{arith}
 use lib.IntN.{ℤ, pos}
-use lib.ListN.{length, getD, set, take, length-set, List·getD-eq-default}
+use Rattle.machine.proofs.Keeping.{cells-length}
+use lib.ListN.{length, getD, set, take, List·getD-eq-default}
 use lib.Seq.{set-out, getD-set-same, getD-set-other}
 use lib.Dec.{eqb, ltb}
 use borrow.Author.Tests.{ltb-true, ltb-false, eqb-true, eqb-false}
 use Rattle.instruction.specs.Bytes.{byte, cellsOf, instructionAt}
 use Rattle.instruction.specs.Table.{mayDef}
-use Rattle.execution.specs.Effects.{Effect, stops, on, goes, writes, takes, gives, sets, saves, effectOf, target, readingsAfter, outputsAfter, cellsAfter, cellsIn, nextOf}
+use Rattle.execution.specs.Effects.{Effect, effectOf, target, readingsAfter, outputsAfter, cellsAfter, cellsIn, nextOf}
 use Rattle.program.specs.Places.{isStart}
 use Rattle.program.proofs.Tests.{bool-cases}
 use Rattle.program.proofs.Accepted.{accepted, start-cells}
@@ -77,17 +78,6 @@ set-agrees xs ys d v c n h =
     (λ t. let e : c ≡ d = eqb-true _ _ t in rw e (set-same xs ys d v n))
     (λ t. let e : ¬ (c ≡ d) = eqb-false _ _ t in getD-set-other xs d c v 0 e ∙ h e ∙ sym (getD-set-other ys d c v 0 e))
 
--- there are as many cells as before
-size-after : (e : Effect) (xs : List ℕ) → length (cellsAfter e xs) ≡ length xs
-size-after (stops k) xs = refl
-size-after on xs = refl
-size-after (goes t) xs = refl
-size-after (writes d v) xs = length-set xs d v
-size-after (takes d v) xs = length-set xs d v
-size-after (gives v) xs = refl
-size-after sets xs = refl
-size-after saves xs = refl
-
 module _ (p : List ℕ) (o : ℕ) where
   -- a cell that is live where the effect goes has one value, if the cells that were live before it had
   cells-agree : (xs ys : List ℕ) → length xs ≡ length ys → ((c : ℕ) → Live p c o → getD xs c 0 ≡ getD ys c 0) → {e : Effect} → Possible p o e
@@ -134,7 +124,7 @@ after-agree : {p : List ℕ} {f g : Frame} → Agree p f g → {e : Effect} → 
 unfolding frameAfter
 after-agree {p} {f} {g} a {e} h =
     record {
-      size = size-after e (f .cells) ∙ a .size ∙ sym (size-after e (g .cells));
+      size = cells-length e (f .cells) ∙ a .size ∙ sym (cells-length e (g .cells));
       pc = ap (λ o. target e o (nextOf p o)) (a .pc);
       readings = ap (readingsAfter e) (a .readings);
       outputs = ap (outputsAfter e) (a .outputs);

@@ -27,6 +27,7 @@ use Rattle.analysis.proofs.Certificates.{follows-start}
 use Rattle.analysis.proofs.Laws.{access-lt}
 use Rattle.machine.specs.Step.{isSaves}
 use Rattle.machine.specs.Ready.{Legal}
+use Rattle.machine.proofs.Laws.{push-effect}
 use Rattle.machine.proofs.Allowed.{Allowed, may-set, may-save, allowed}
 
 -- ---- cells of an access
@@ -215,11 +216,6 @@ saves-only p o l s v r m x =
     bool-cases (eqb (byte p o) 0x0E)
     (λ t. ap isSaves (effect-checkpoint p o (eqb-true _ _ t) v r m x) ∙ sym t)
     (λ t. unsaved (eqb-false _ _ t) (possible p o l s v r m x) ∙ sym t)
-
--- an effect by cases on the opcode's tests
-push-effect : (b : Bool) (i j : Instruction) (v : ℤ) (r m : ℕ) (x : ℕ → ℕ) → effectOf (cond b i j) v r m x ≡ cond b (effectOf i v r m x) (effectOf j v r m x)
-push-effect true i j v r m x = refl
-push-effect false i j v r m x = refl
 
 -- only READ has a use for the reading
 pub effect-unread : (p : List ℕ) (o : ℕ) → ¬ (byte p o ≡ 0x07) → (v v₂ : ℤ) (r m : ℕ) (x : ℕ → ℕ)

@@ -1,12 +1,11 @@
 -- A run of a good system: it is accepted, and what it leaves is a good system at its tally.
 -- Assumes nothing.
 use Prim.Native.Nat.{ℕ, _+_, _≤_}
-use mathlib.Core.Path.{_≡_, refl, sym, _∙_, ap, subst}
+use mathlib.Core.Path.{_≡_, sym, _∙_, ap, subst}
 use mathlib.Core.List.{List}
 use native.Mathlib.Omega.{arith}
 use lib.IntN.{ℤ}
-use lib.ListN.{length, take, drop}
-use lib.Seq.{sets, sets-eq, take-at}
+use lib.ListN.{length}
 use Rattle.machine.specs.State.{Env, envOf, Machine}
 use Rattle.machine.specs.Run as run
 use Rattle.machine.specs.Run.{Finish, Outcome, started, runOf, refusalOf, callOf}
@@ -25,11 +24,6 @@ call-runs : (e : Env) (ρ : List ℤ) (b : ℕ) (m : Machine) (outs : List ℤ) 
     → callOf e ρ b m outs ≡ run.outcomeOf (runOf e ρ (length outs) b (started m)) outs
 unfolding callOf
 call-runs e ρ b m outs h = rw h
-
--- the outputs stand first in their buffer
-pub outputs-first : (vs outs : List ℤ) → length vs ≤ length outs → take (length vs) (sets outs 0 vs) ≡ vs
-outputs-first vs outs h =
-    ap (take (length vs)) (sets-eq vs outs 0 (omega arith)) ∙ take-at vs (drop (0 + length vs) outs) (length vs) refl
 
 -- what a run of s is, from its steps
 pub record Ran (p : List ℕ) (ρ : List ℤ) (f₀ : Frame) (n : ℕ) (s : System) (r : Request) : Type 0 where

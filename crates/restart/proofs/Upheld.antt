@@ -24,7 +24,8 @@ use Rattle.restart.proofs.Frames.{emitted-none, news, distinct-append}
 use Rattle.restart.proofs.Phases.{phase-shape}
 use Rattle.restart.proofs.Restoring.{restored-inv}
 use Rattle.restart.proofs.Stopping.{runs-before, steps-paid}
-use Rattle.restart.proofs.Runs.{Ran, run-is, outputs-first}
+use Rattle.restart.proofs.Runs.{Ran, run-is}
+use Rattle.machine.proofs.Accepting.{outputs-first}
 
 -- of any system: the journal can be taken up at the tally of the last final byte; the outputs; the steps since the recovery
 pub record Lasting (p : List ℕ) (ρ : List ℤ) (f₀ : Frame) (n t₀ : ℕ) (s : System) : Type 0 where

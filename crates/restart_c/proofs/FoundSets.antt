@@ -1,13 +1,12 @@
 -- The words that an accepted call of pitskelo_analyse left are safe, and so are the first 512 of them, those that a call of the C interface uses.
 -- Assumes nothing.
-use Prim.Native.Nat.{ℕ, zero, suc, _+_, _-_, _*_, _/_, _≤_, _<_, min}
-use mathlib.Core.Path.{_≡_, refl, sym, _∙_, ap, subst}
+use Prim.Native.Nat.{ℕ, _+_, _-_, _*_, _/_, _≤_, _<_, min}
+use mathlib.Core.Path.{_≡_, sym, _∙_, ap, subst}
 use mathlib.Core.Bool.{Bool, true, false, cond}
-use mathlib.Core.List.{List, _∷_}
+use mathlib.Core.List.{List}
 use native.Mathlib.Omega.{arith}
 use lib.ListN.{length, take}
-use lib.Seq.{getD-take, length-take-le}
-use Rattle.word.specs.Bytes.{loadOf}
+use lib.Seq.{getD-take, length-take-le, take-at}
 use Rattle.cellset.specs.Bits.{member}
 use Rattle.instruction.specs.Bytes.{cellsOf}
 use Rattle.program.specs.Places.{isExclude, excludeNumber}
@@ -17,7 +16,8 @@ use Rattle.analysis.specs.Analyse.{tooShort, analyseOf, answerOf, Analyses}
 use Rattle.analysis.specs.declared.Analysed.{Analysed}
 use Rattle.analysis.specs.declared.Analysed.the-variants.{Sets, Refused}
 use Rattle.layout.specs.Numbers.{numbersFrom}
-use Rattle.pitskelo.specs.Calls.{wordsFrom, wordsOf}
+use Rattle.layout.proofs.Numbering.{numbers-length, numbers-split}
+use Rattle.pitskelo.specs.Calls.{wordsOf}
 use Rattle.pitskelo.specs.Runs.{setsIn}
 use Rattle.pitskelo.proofs.Buffers.{length-words}
 use Rattle.restart.specs.Claim as claim
@@ -28,12 +28,8 @@ use Rattle.restart_c.specs.Calls.{Found}
 -- ---- the words that are used
 
 -- the first n of more words
-first-words : (n k : ℕ) (b : List ℕ) (at : ℕ) → numbersFrom 8 n b at ≡ take n (wordsFrom (n + k) b at)
-unfolding numbersFrom wordsFrom
-first-words zero k b at = refl
-first-words (suc n) k b at =
-    let e : suc n + k ≡ suc (n + k) = omega arith in
-    rw e (ap (λ (l : List ℕ). loadOf 8 b at ∷ l) (first-words n k b (at + 8)))
+first-words : (n k : ℕ) (b : List ℕ) (at : ℕ) → numbersFrom 8 n b at ≡ take n (numbersFrom 8 (n + k) b at)
+first-words n k b at = sym (ap (take n) (numbers-split 8 n k b at) ∙ take-at (numbersFrom 8 n b at) _ n (numbers-length 8 n b at))
 
 -- where there are 512 words, the first 512 are used
 sets-first : (b : List ℕ) → 512 ≤ length b / 8 → setsIn b ≡ take 512 (wordsOf b)
@@ -41,7 +37,7 @@ unfolding setsIn wordsOf
 sets-first b h =
     let m : min (length b / 8) 512 ≡ 512 = omega arith in
     let k : 512 + (length b / 8 - 512) ≡ length b / 8 = omega arith in
-    ap (λ (n : ℕ). numbersFrom 8 n b 0) m ∙ first-words 512 (length b / 8 - 512) b 0 ∙ ap (λ (n : ℕ). take 512 (wordsFrom n b 0)) k
+    ap (λ (n : ℕ). numbersFrom 8 n b 0) m ∙ first-words 512 (length b / 8 - 512) b 0 ∙ ap (λ (n : ℕ). take 512 (numbersFrom 8 n b 0)) k
 
 module _ {p : List ℕ} (plan : Plan p) where
   -- ---- the words that were found

@@ -25,7 +25,7 @@ use Rattle.machine.specs.Run.{Call, Finish, Outcome, started, stepped, runOf, o
 use Rattle.machine.proofs.Laws.{given-within}
 use Rattle.layout.specs.Numbers.{signedFrom, signedOf, signedBytes}
 use Rattle.restart.specs.History.{Accepted}
-use Rattle.restart.proofs.Runs.{outputs-first}
+use Rattle.machine.proofs.Accepting.{outputs-first}
 use Rattle.restart.proofs.Traces.{Trace, none, more, traced}
 use Rattle.restart.proofs.Refusing.{exit-accepted}
 use Rattle.layout.proofs.Laws.{signed-bytes-length, signed-length}

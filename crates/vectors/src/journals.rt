@@ -1,7 +1,10 @@
-// Rows about the chip reader. A row gives the number of the answer and, where the chip is accepted, the end of
-// the whole saves, the number of torn bytes, the last mark's place, EXCLUDE, readings and outputs, and
-// the values of cells 0 to 2.
+// Rows about recovery, which reads the chip. A row gives the number of the answer and, where the state is restored, its
+// write position, bytes to erase, place, last EXCLUDE, readings and outputs, and the values of cells 0 to 2.
+use crate::runs::state;
 use libc::STDOUT_FILENO;
+use machine::State;
+use recovery::Recovered;
+use recovery::recover_value;
 
 fn number(n: u64) {
     io::write_all(STDOUT_FILENO, b" ");
@@ -13,21 +16,32 @@ fn value(n: u32) {
     number(n as u64);
 }
 
-// The rest of a row, behind its name.
+fn restored(s: State) {
+    let regs = s.regs;
+    let cells = s.cells;
+    number(0);
+    number(regs.write as u64);
+    number(regs.erase as u64);
+    number(regs.pc as u64);
+    number(regs.exclude as u64);
+    number(regs.readings as u64);
+    number(regs.outputs as u64);
+    value(cells[0]);
+    value(cells[1]);
+    value(cells[2]);
+}
+
+// The rest of a row, behind its name. Nothing of the lent state may remain; the words of DE and RO decide the marks
+// alone, which no row gives.
 fn answer(plan: &[u8], chip: &[u8]) {
-    let found = probe::probe(plan, chip);
+    let words = [0u64; 512];
+    let found = recover_value(state(9, 9, 9), plan, &words, chip);
+    let answer = found.answer;
+    let after = found.state;
     io::write_all(STDOUT_FILENO, b":");
-    number(found.number as u64);
-    if found.number == 0 {
-        number(found.end as u64);
-        number(found.torn as u64);
-        number(found.last.place as u64);
-        number(found.last.exclude as u64);
-        number(found.last.readings as u64);
-        number(found.last.outputs as u64);
-        value(found.values[0]);
-        value(found.values[1]);
-        value(found.values[2]);
+    match answer {
+        Recovered::Restored => restored(after),
+        Recovered::Refused(n) => number(n as u64),
     }
     io::write_all(STDOUT_FILENO, b"\n");
 }

@@ -59,7 +59,7 @@ fn bytes(chip: &[u8]) {
 }
 
 // What recovery leaves on an erased chip, with this write position and these counts.
-fn state(write: u32, readings: u32, outputs: u32) -> State {
+pub fn state(write: u32, readings: u32, outputs: u32) -> State {
     State {
         regs: Regs {
             pc: 1,

@@ -5,8 +5,6 @@ use reference::journal::{Mark, Save, ERASED, MARK, MARK_END, MAX_CHIP, RECORD};
 use reference::program::{CHECKPOINT, EXCLUDE, FIRST_INSTRUCTION, LENGTHS, MAX_BYTES};
 use reference::refusal::{CHIP_DAMAGED, CHIP_LENGTH};
 
-use crate::baseline::check;
-
 const RECORD_LEN: usize = 6;
 const MARK_LEN: usize = 14;
 
@@ -23,9 +21,8 @@ pub struct Held {
     pub values: [u32; 256],
 }
 
-/// Reads a chip, or gives the refusal of it or of the plan.
-pub fn read(plan: &[u8], chip: &[u8]) -> Result<Held, u32> {
-    let cells = check(plan)?.cells as usize;
+/// Reads a chip for an accepted plan of so many cells, or gives the refusal.
+pub fn read(plan: &[u8], cells: usize, chip: &[u8]) -> Result<Held, u32> {
     if chip.len() > MAX_CHIP {
         return Err(CHIP_LENGTH);
     }

@@ -1,8 +1,7 @@
 //! Recovery and run in plain Rust on lent bytes, as the C interface has them: the state is decoded, checked, altered and
 //! encoded again.
 
-use differential::call::{put_words, set_lower, words, Call, Callee, Entry};
-use differential::probe::Ran;
+use differential::call::{put_words, set_lower, words, Call, Callee, Entry, Ran};
 use reference::journal::MAX_CHIP;
 use reference::layout::STATE_BYTES;
 use reference::program::{CHECKPOINT, EXCLUDE};
@@ -25,7 +24,7 @@ pub fn recover(plan: &[u8], sets: &[[u8; 8]], chip: &[u8], state: &mut [u8]) -> 
     if state.len() != STATE_BYTES {
         return Err(STATE_NOT_SOUND);
     }
-    let held = read(plan, chip)?;
+    let held = read(plan, cell_count, chip)?;
     let mut machine = Machine::first(plan, cell_count);
     machine.cells = held.values.map(|value| value as i32);
     machine.place = held.last.place.into();
@@ -196,6 +195,6 @@ fn answer_run(call: &mut Call) -> Result<(), u32> {
     let ran = run(call.plan.lent(), call.state.lend(), &mut lent)?;
     let [ended, steps, taken, given] = &mut call.numbers;
     set_lower(ended, ran.ended);
-    (*steps, *taken, *given) = (ran.steps, ran.taken, ran.written);
+    (*steps, *taken, *given) = (ran.steps, ran.taken, ran.given);
     Ok(())
 }

@@ -1,17 +1,15 @@
 //! A run in plain Rust, as one would write it who wants it fast but simple, in place: the bytes of the plan are
-//! executed as they stand, words, readings and outputs are bytes too, and a save's bytes are made once.
+//! executed as they stand, words, readings and outputs are bytes too, and a save's bytes are made, stored and erased in one
+//! go as far as the budget allows.
 
 use std::array::from_fn;
 
-use differential::probe::Ran;
-use reference::journal::{ERASED, MARK, MARK_END, MAX_CHIP, RECORD};
+use differential::call::Ran;
+use reference::journal::{ERASED, MARK, MARK_END, RECORD};
 use reference::program::{
     ADD, CHECKPOINT, COPY, DIV, EMIT, END, EXCLUDE, FIRST_INSTRUCTION, GET, JUMP, LENGTHS, LESS,
     MAX_BYTES, PUT, READ, SET, SUB,
 };
-use reference::refusal::{BUFFER_TOO_SHORT, CHIP_LENGTH};
-
-use crate::baseline::{check, SET_WORDS};
 
 pub(crate) const INCLUDE: u8 = 0;
 pub(crate) const PENDING: u8 = 1;
@@ -45,8 +43,10 @@ impl Map {
     }
 }
 
-/// The state. While it saves, `stored` says how many bytes of the save stand on the chip; `save` holds its bytes, made
-/// when the first of them is needed.
+/// The most bytes that a save has.
+const MAX_SAVE: usize = 6 * 256 + 14;
+
+/// The state. While it saves, `stored` says how many bytes of the save stand on the chip.
 pub(crate) struct Machine<'a> {
     pub(crate) plan: &'a [u8],
     pub(crate) map: Map,
@@ -62,7 +62,6 @@ pub(crate) struct Machine<'a> {
     pub(crate) erase: usize,
     pub(crate) saving: bool,
     pub(crate) stored: usize,
-    save: Vec<u8>,
 }
 
 /// What a run is lent beside the plan and the state.
@@ -72,18 +71,6 @@ pub struct Lent<'a> {
     pub readings: &'a [[u8; 4]],
     pub outputs: &'a mut [[u8; 4]],
     pub budget: u64,
-}
-
-/// Runs a plan from the first state, or gives the refusal of it, of the words or of the chip.
-pub fn run(plan: &[u8], lent: &mut Lent) -> Result<Ran, u32> {
-    let cell_count = check(plan)?.cells as usize;
-    if lent.sets.len() < SET_WORDS {
-        return Err(BUFFER_TOO_SHORT);
-    }
-    if lent.chip.len() > MAX_CHIP {
-        return Err(CHIP_LENGTH);
-    }
-    Ok(Machine::first(plan, cell_count).run(lent))
 }
 
 impl<'a> Machine<'a> {
@@ -103,17 +90,15 @@ impl<'a> Machine<'a> {
             erase: 0,
             saving: false,
             stored: 0,
-            save: Vec::new(),
         }
     }
 
     pub(crate) fn run(&mut self, lent: &mut Lent) -> Ran {
         let mut ran = Ran {
-            result: 0,
             ended: 0,
             steps: 0,
             taken: 0,
-            written: 0,
+            given: 0,
         };
         loop {
             if self.stop != 0 {
@@ -124,24 +109,24 @@ impl<'a> Machine<'a> {
                 ran.ended = 4;
                 return ran;
             }
+            let left = lent.budget - ran.steps;
             if self.erase > 0 {
-                self.erase -= 1;
-                lent.chip[self.write + self.erase] = ERASED;
+                ran.steps += self.erase_bytes(left, lent.chip);
             } else if self.saving {
-                self.store(lent.chip);
+                ran.steps += self.store_bytes(left, lent.chip);
             } else {
                 let opcode = self.plan[self.place];
                 if opcode == READ && ran.taken == lent.readings.len() as u64 {
                     ran.ended = 5;
                     return ran;
                 }
-                if opcode == EMIT && ran.written == lent.outputs.len() as u64 {
+                if opcode == EMIT && ran.given == lent.outputs.len() as u64 {
                     ran.ended = 6;
                     return ran;
                 }
                 self.execute(opcode, lent, &mut ran);
+                ran.steps += 1;
             }
-            ran.steps += 1;
         }
     }
 }
@@ -198,9 +183,9 @@ impl Machine<'_> {
             }
             EMIT if self.outputs == u32::MAX => self.stop = 3,
             EMIT => {
-                lent.outputs[ran.written as usize] = self.cell(1).to_le_bytes();
+                lent.outputs[ran.given as usize] = self.cell(1).to_le_bytes();
                 self.outputs += 1;
-                ran.written += 1;
+                ran.given += 1;
                 self.place += 2;
             }
             JUMP => self.place = self.target(1),
@@ -252,33 +237,51 @@ impl Machine<'_> {
         }
     }
 
-    fn make_save(&mut self) {
+    /// Makes the bytes of the save, and gives their number.
+    fn make_save(&self, save: &mut [u8; MAX_SAVE]) -> usize {
+        let mut at = 0;
+        let mut put = |bytes: &[u8]| {
+            save[at..at + bytes.len()].copy_from_slice(bytes);
+            at += bytes.len();
+        };
         for cell in (0..self.cell_count).filter(|cell| self.marks[*cell] <= PENDING) {
-            self.save.extend([RECORD, cell as u8]);
-            self.save.extend(self.cells[cell].to_le_bytes());
+            let [v0, v1, v2, v3] = self.cells[cell].to_le_bytes();
+            put(&[RECORD, cell as u8, v0, v1, v2, v3]);
         }
-        self.save.push(MARK);
-        self.save.extend((self.place as u16 + 1).to_le_bytes());
-        self.save.extend((self.exclude as u16).to_le_bytes());
-        self.save.extend(self.readings.to_le_bytes());
-        self.save.extend(self.outputs.to_le_bytes());
-        self.save.push(MARK_END);
+        put(&[MARK]);
+        put(&(self.place as u16 + 1).to_le_bytes());
+        put(&(self.exclude as u16).to_le_bytes());
+        put(&self.readings.to_le_bytes());
+        put(&self.outputs.to_le_bytes());
+        put(&[MARK_END]);
+        at
     }
 
-    fn store(&mut self, chip: &mut [u8]) {
-        if self.save.is_empty() {
-            self.make_save();
-        }
-        chip[self.write] = self.save[self.stored];
-        self.write += 1;
-        self.stored += 1;
-        if self.stored == self.save.len() {
+    /// Erases as many of the torn bytes as the budget allows, and gives their number.
+    fn erase_bytes(&mut self, left: u64, chip: &mut [u8]) -> u64 {
+        let bytes = left.min(self.erase as u64);
+        let end = self.write + self.erase;
+        chip[end - bytes as usize..end].fill(ERASED);
+        self.erase -= bytes as usize;
+        bytes
+    }
+
+    /// Stores as many bytes of the save as the budget allows, and gives their number.
+    fn store_bytes(&mut self, left: u64, chip: &mut [u8]) -> u64 {
+        let mut save = [0; MAX_SAVE];
+        let size = self.make_save(&mut save);
+        let bytes = left.min((size - self.stored) as u64);
+        let next = &save[self.stored..self.stored + bytes as usize];
+        chip[self.write..self.write + next.len()].copy_from_slice(next);
+        self.write += next.len();
+        self.stored += next.len();
+        if self.stored == size {
             for mark in self.marks.iter_mut().filter(|mark| **mark == PENDING) {
                 *mark = KEPT;
             }
             self.saving = false;
-            self.save.clear();
             self.place += 1;
         }
+        bytes
     }
 }

@@ -1,21 +1,18 @@
-//! Times the verified library against the baseline, in turns: check, and the whole of analyse, on each plan; reading a
-//! chip and a run through the probe; and through the C entries runs of one step, recoveries, saves and long runs. A line
-//! gives the microseconds of a call of each, the least of many turns, and the ratio of the two. With `--bar X` a ratio
-//! above X is a failure: `cargo run --release -p bench -- --bar 2`. At the end stand the bytes that document 001's
-//! programs save.
+//! Times the verified library, through its C entries, against the baseline, in turns: check, and the whole of analyse, on
+//! each plan; runs of one step, recoveries, saves and long runs. A line gives the microseconds of a call of each, the
+//! least of many turns, and the ratio of the two. With `--bar X` a ratio above X is a failure:
+//! `cargo run --release -p bench -- --bar 2`. At the end stand the bytes that document 001's programs save.
 
 use std::env;
 use std::hint::black_box;
 use std::process::ExitCode;
 
 use bench::baseline::{self, DEAD_WORDS, SET_WORDS};
-use bench::journals::{self, chips, PLAN};
 use bench::lent::Plain;
-use bench::machine::{self, Lent};
 use bench::plans::plans;
 use bench::race::race;
 use bench::sizes::{sizes, Sizes};
-use bench::timed::{erased, long_runs, one_step, recoveries, timed, whole_saves, Timed};
+use bench::timed::{long_runs, one_step, recoveries, whole_saves};
 use differential::call::{agree, words, Call, Callee, Library};
 
 fn main() -> ExitCode {
@@ -25,13 +22,13 @@ fn main() -> ExitCode {
         return ExitCode::from(2);
     };
     println!("{:30}   library  baseline   ratio", "microseconds");
-    let passes = [time_analysis(bar), time_probe(bar), time_calls(bar)];
+    let passes = [time_analysis(bar), time_calls(bar)];
     println!();
     for sizes in sizes().chunks(3) {
         report_sizes(sizes);
     }
     match passes {
-        [true, true, true] => ExitCode::SUCCESS,
+        [true, true] => ExitCode::SUCCESS,
         _ => ExitCode::FAILURE,
     }
 }
@@ -59,23 +56,7 @@ fn time_analysis(bar: f64) -> bool {
     passes
 }
 
-/// The chip reader and runs from the first state, through the probe.
-fn time_probe(bar: f64) -> bool {
-    let mut passes = true;
-    for (name, chip) in &chips() {
-        let times = race_read(chip);
-        passes &= report("read", name, times, bar);
-        report_rates("megabytes", times, chip.len() as f64);
-    }
-    for timed in &timed() {
-        let times = race_run(timed);
-        passes &= report("run", timed.name, times, bar);
-        report_rates("million steps", times, timed.budget as f64);
-    }
-    passes
-}
-
-/// Recoveries and runs through the C entries.
+/// Recoveries and runs.
 fn time_calls(bar: f64) -> bool {
     let mut passes = true;
     for (name, call) in &one_step() {
@@ -141,64 +122,6 @@ fn race_analyse(plan: &[u8]) -> [f64; 2] {
         || {
             let _ = baseline::analyse(black_box(plan), &mut dead_words, &mut set_words);
             black_box((&mut dead_words, &mut set_words));
-        },
-    )
-}
-
-/// Asserts that library and baseline read the same, and races them on the chip.
-fn race_read(chip: &[u8]) -> [f64; 2] {
-    let held = journals::read(PLAN, chip).expect("the chip is sound");
-    let last = held.last;
-    let numbers = [
-        held.end as u32,
-        held.torn as u32,
-        u32::from(last.place),
-        u32::from(last.exclude),
-        last.readings,
-        last.outputs,
-        held.values[7],
-    ];
-    let found = differential::probe::chip(PLAN, chip, 7, [0; 7]);
-    assert_eq!(found, (0, numbers));
-    race(
-        || {
-            black_box(differential::probe::chip(PLAN, black_box(chip), 7, [0; 7]));
-        },
-        || {
-            let _ = black_box(journals::read(PLAN, black_box(chip)));
-        },
-    )
-}
-
-/// Asserts that library and baseline run the same, and races them, each on a chip that is erased first.
-fn race_run(timed: &Timed) -> [f64; 2] {
-    let (sets, budget) = ([0; SET_WORDS], timed.budget);
-    let mut chips = [erased(timed.chip), erased(timed.chip)];
-    let [ours, theirs] = &mut chips;
-    let probe = |chip: &mut [u8]| {
-        let plan = black_box(&timed.plan);
-        differential::probe::run(plan, &sets, chip, &[], &mut [], budget, 0)
-    };
-    let plain = |chip: &mut [u8]| {
-        let mut lent = Lent {
-            sets: &[[0; 8]; SET_WORDS],
-            chip,
-            readings: &[],
-            outputs: &mut [],
-            budget,
-        };
-        machine::run(black_box(&timed.plan), &mut lent)
-    };
-    let expected = plain(theirs);
-    assert_eq!((Ok(probe(ours)), &*ours), (expected, &*theirs));
-    race(
-        || {
-            ours.fill(0xFF);
-            black_box(probe(ours));
-        },
-        || {
-            theirs.fill(0xFF);
-            let _ = black_box(plain(theirs));
         },
     )
 }

@@ -1,4 +1,4 @@
-//! What is timed: plans for runs, and calls through the C interface.
+//! The calls of recovery and run that are timed, and their plans.
 
 use differential::buffer::Buffer;
 use differential::call::{number_bytes, words, Call};
@@ -13,31 +13,6 @@ use reference::program::{
 use crate::baseline::SET_WORDS;
 use crate::journals::{chips, PLAN};
 use crate::plans::plans;
-
-/// A plan to time, with its sets left empty: the length of the chip and the budget.
-pub struct Timed {
-    pub name: &'static str,
-    pub plan: Vec<u8>,
-    pub chip: usize,
-    pub budget: u64,
-}
-
-/// An arithmetic loop, a loop over tables, and saves until the chip is full.
-pub fn timed() -> Vec<Timed> {
-    [
-        ("arithmetic", arithmetic(), 0, 1_000_000),
-        ("tables", tables(), 0, 1_000_000),
-        ("saves of 256 cells", saves(256), MAX_CHIP, 66_000),
-        ("saves of 16 cells", saves(16), MAX_CHIP, 66_000),
-    ]
-    .map(|(name, plan, chip, budget)| Timed {
-        name,
-        plan,
-        chip,
-        budget,
-    })
-    .into()
-}
 
 fn set(cell: u8, value: i32) -> Vec<u8> {
     [&[SET, cell][..], &value.to_le_bytes()].concat()
@@ -90,17 +65,12 @@ fn save_len(cells: usize) -> u64 {
     6 * cells as u64 + 14
 }
 
-/// An erased chip.
-pub fn erased(length: usize) -> Vec<u8> {
-    vec![ERASED; length]
-}
-
 /// A call of run from a state, on an erased chip, with empty sets.
 fn run_call(plan: &[u8], chip: usize, state: &State, budget: u64) -> Call {
-    let sets = [0; SET_WORDS];
+    let (sets, chip) = ([0; SET_WORDS], vec![ERASED; chip]);
     Call {
         budget,
-        ..Call::run(plan, &sets, &erased(chip), &state.to_bytes())
+        ..Call::run(plan, &sets, &chip, &state.to_bytes())
     }
 }
 
@@ -185,6 +155,7 @@ pub fn long_runs() -> Vec<(&'static str, Call)> {
         ("arithmetic", of(&arithmetic(), 0, 100_000)),
         ("tables", of(&tables(), 0, 100_000)),
         ("saves of 256 cells", of(&saves(256), MAX_CHIP, 66_000)),
+        ("saves of 16 cells", of(&saves(16), MAX_CHIP, 66_000)),
         ("READ and EMIT", streaming),
     ]
 }

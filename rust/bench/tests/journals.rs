@@ -1,5 +1,6 @@
 //! Holds the plain chip reader to the reference, so that the library is timed against what is right.
 
+use bench::baseline::check;
 use bench::journals::{chips, read, Held, PLAN};
 use differential::journals::{altered, plans, stored};
 use differential::rng::Rng;
@@ -14,7 +15,8 @@ fn agreed(plan: &[u8], chip: &[u8]) -> u32 {
         last: chip.last(),
         values: std::array::from_fn(|cell| chip.value(cell as u8) as u32),
     });
-    let found = read(plan, chip);
+    let cells = check(plan).expect("the plan is accepted").cells as usize;
+    let found = read(plan, cells, chip);
     assert_eq!(found, expected, "plan {plan:02X?} chip {chip:02X?}");
     found.err().unwrap_or(0)
 }

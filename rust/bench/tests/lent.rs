@@ -47,7 +47,7 @@ fn the_timed_calls_do_what_their_names_say() {
         let last = call.budget as usize - 2;
         assert_eq!(left.chip.lent()[last..last + 2], [0x5A, 0xFF], "{name}");
     }
-    let (_, stream) = &long_runs()[3];
-    let ran = agree(&Plain, stream).expect("the stream").1.ran();
+    let (name, stream) = long_runs().pop().expect("there are long runs");
+    let ran = agree(&Plain, &stream).expect(name).1.ran();
     assert_eq!((ran.ended, ran.taken, ran.given), (4, 30_000, 30_000));
 }

@@ -10,7 +10,6 @@ pub mod faults;
 pub mod features;
 pub mod journals;
 pub mod plans;
-pub mod probe;
 pub mod seeded;
 pub mod states;
 

@@ -1,13 +1,13 @@
-//! The library's recovery through C on chosen calls, held to the reference: on the result and on every byte of every
-//! buffer. Where document 01 says the answer outright, it is stated here as well.
+//! The library's recovery through C on chosen calls and random chips, held to the reference: on the result and on every
+//! byte of every buffer. Where document 01 says the answer outright, it is stated here as well.
 
 use differential::buffer::Buffer;
 use differential::call::{agreed, sets_of, word_bytes, Call, Entry, Library, SET_WORDS};
 use differential::examples::SMALL;
-use differential::journals::{filled, plans};
+use differential::journals::{self, altered, filled, plans};
 use differential::plans::refused_examples;
 use differential::rng::Rng;
-use reference::journal::{ERASED, MAX_CHIP};
+use reference::journal::{read, ERASED, MARK, MARK_END, MAX_CHIP, RECORD};
 use reference::layout::STATE_BYTES;
 use reference::machine::{Mark, State};
 
@@ -211,6 +211,98 @@ fn full_chips() {
         let call = Call::recover(&plan, &[u64::MAX; SET_WORDS], &chip, &[0; STATE_BYTES]);
         let state = recovered(&call);
         assert!(state.write > 60_000, "{}", state.write);
+    }
+}
+
+/// A recovery of each plan with its own sets, on no chip yet.
+fn of_plans() -> Vec<Call> {
+    let call = |plan: Vec<u8>| Call::recover(&plan, &sets_of(&plan), &[], &[0xA5; STATE_BYTES]);
+    plans().into_iter().map(call).collect()
+}
+
+fn on_chip(call: &Call, chip: &[u8]) -> Call {
+    Call {
+        chip: Buffer::plain(chip),
+        ..call.clone()
+    }
+}
+
+#[test]
+fn saves_torn_at_every_length() {
+    let mut rng = Rng::new(0xC41B_0000_0000_0005);
+    for call in of_plans() {
+        let saves = filled(&mut rng, call.plan.lent(), 4_000);
+        for bytes in 0..=saves.len() {
+            let mut chip = saves[..bytes].to_vec();
+            chip.resize(saves.len(), ERASED);
+            let state = recovered(&on_chip(&call, &chip));
+            assert!((state.write + state.erase) as usize <= bytes);
+        }
+    }
+}
+
+#[test]
+fn chips_as_the_engine_leaves_them() {
+    let mut rng = Rng::new(0xC41B_0000_0000_0001);
+    let calls = of_plans();
+    for _ in 0..50_000 {
+        let call = &calls[rng.below(calls.len())];
+        let chip = journals::stored(&mut rng, call.plan.lent());
+        recovered(&on_chip(call, &chip));
+    }
+}
+
+#[test]
+fn altered_chips() {
+    let mut rng = Rng::new(0xC41B_0000_0000_0002);
+    let calls = of_plans();
+    let mut damaged = 0;
+    let count = 50_000;
+    for _ in 0..count {
+        let call = &calls[rng.below(calls.len())];
+        let chip = journals::stored(&mut rng, call.plan.lent());
+        let call = on_chip(call, &altered(&mut rng, chip));
+        damaged += usize::from(agreed(&Library, &call).0 == 12);
+    }
+    println!("{damaged} of {count} altered chips are damaged");
+    assert!(damaged > count / 4 && damaged < 3 * count / 4, "{damaged}");
+}
+
+#[test]
+fn chips_of_bytes_that_mean_something() {
+    let mut rng = Rng::new(0xC41B_0000_0000_0003);
+    let calls = of_plans();
+    let some = [RECORD, MARK, MARK_END, 0x00, 0x01, 0x02, 0x03, ERASED];
+    for _ in 0..20_000 {
+        let call = &calls[rng.below(calls.len())];
+        let length = rng.below(40);
+        let mut chip: Vec<u8> = (0..length).map(|_| rng.pick(&some)).collect();
+        agreed(&Library, &on_chip(call, &chip));
+        chip.truncate(3);
+        agreed(&Library, &on_chip(call, &chip));
+    }
+}
+
+#[test]
+fn every_beginning_of_three_bytes() {
+    // With one whole save before them: all pairs of bytes after A1, and after A2.
+    let mut rng = Rng::new(0xC41B_0000_0000_0004);
+    for call in of_plans() {
+        let plan = call.plan.lent();
+        let before = loop {
+            let chip = journals::stored(&mut rng, plan);
+            let held = read(plan, &chip).expect("the engine leaves a sound chip");
+            if !held.saves.is_empty() {
+                break chip[..held.end].to_vec();
+            }
+        };
+        for tag in [RECORD, MARK] {
+            for pair in 0..=u16::MAX {
+                let [low, high] = pair.to_le_bytes();
+                let chip = [&before[..], &[tag, low, high]].concat();
+                agreed(&Library, &on_chip(&call, &chip));
+            }
+        }
     }
 }
 

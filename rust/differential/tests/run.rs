@@ -1,12 +1,15 @@
-//! The library's run through C on chosen calls, held to the reference: on the result, on the numbers and on every byte of
-//! every buffer. Where document 01 says the answer outright, it is stated here as well.
+//! The library's run through C on chosen calls and random plans, held to the reference: on the result, on the numbers and
+//! on every byte of every buffer. Where document 01 says the answer outright, it is stated here as well.
 
 use differential::buffer::Buffer;
 use differential::call::{
     agreed, number_bytes, numbers, sets_of, Call, Entry, Library, Ran, SET_WORDS,
 };
-use differential::examples::SMALL;
-use differential::plans::{plan, refused_examples};
+use differential::examples::{programs, SMALL};
+use differential::plans::{mutated, plan, refused_examples, reversed, valid, woven};
+use differential::rng::Rng;
+use differential::states::value;
+use reference::analyse;
 use reference::journal::{ERASED, MAX_CHIP};
 use reference::layout::STATE_BYTES;
 use reference::machine::{Mark, State, Stop};
@@ -414,6 +417,70 @@ fn budgets_of_every_size() {
             .steps,
             STEPS
         );
+    }
+}
+
+#[test]
+fn the_three_programs_at_every_budget() {
+    let readings: Vec<i32> = (0..25).map(|k| k * 7 % 20 % 2).collect();
+    for (_, plan) in programs() {
+        let call = run_from(&State::first(), &plan, 700, &readings, 40);
+        for budget in (0..3_000).chain([1_000_000]) {
+            accepted(&Call {
+                budget,
+                ..call.clone()
+            });
+        }
+    }
+}
+
+/// A run from the first state, with the sets found for the plan, random words behind them, and random readings.
+fn drawn(rng: &mut Rng, plan: &[u8]) -> Call {
+    let mut words = analyse(plan).map_or(vec![], |found| found.set_words());
+    words.resize_with(SET_WORDS + rng.below(2), || rng.word());
+    let chip = vec![ERASED; rng.pick(&[0, 19, 40, 300])];
+    let count = rng.pick(&[0, 1, 5, 60]);
+    let readings: Vec<i32> = (0..count).map(|_| value(rng)).collect();
+    let room = rng.pick(&[0, 1, 8, 100]);
+    Call {
+        readings: Buffer::plain(&number_bytes(&readings)),
+        outputs: Buffer::plain(&number_bytes(&vec![-77; room])),
+        budget: rng.pick(&[0, 1, 2, 17, 300, 2_000]),
+        ..Call::run(plan, &words, &chip, &State::first().to_bytes())
+    }
+}
+
+#[test]
+fn random_plans_with_their_own_sets() {
+    let mut rng = Rng::new(0x4D41_0000_0000_0001);
+    let mut ends = [0; 7];
+    for turn in 0..60_000 {
+        let draft = match turn % 3 {
+            0 => valid(&mut rng),
+            1 => woven(&mut rng),
+            _ => reversed(&mut rng),
+        };
+        let left = accepted(&drawn(&mut rng, &draft.bytes));
+        ends[left.ran().ended as usize] += 1;
+    }
+    println!("runs by how they ended, 1 to 6: {:?}", &ends[1..]);
+    for ended in [1, 2, 4, 5, 6] {
+        assert!(ends[ended] > 100, "ended {ended}: {}", ends[ended]);
+    }
+}
+
+#[test]
+fn random_plans_that_are_often_refused() {
+    let mut rng = Rng::new(0x4D41_0000_0000_0002);
+    let mut results = [0; 12];
+    for _ in 0..5_000 {
+        let plan = mutated(&mut rng);
+        let (result, _) = agreed(&Library, &drawn(&mut rng, &plan));
+        results[result as usize] += 1;
+    }
+    println!("runs with the answers 0 to 11: {results:?}");
+    for result in [0, 1, 2, 3, 4, 5, 7, 8] {
+        assert!(results[result] > 20, "{result}: {}", results[result]);
     }
 }
 

@@ -1,5 +1,5 @@
-//! The rows about the chip reader that `crates/vectors` prints: its expected output, in
-//! `crates/vectors/stdout`, is what the reference answers of the same chips.
+//! The rows about recovery that `crates/vectors` prints: its expected output, in `crates/vectors/stdout`, is what the
+//! reference reads of the same chips.
 
 use std::fmt::Write;
 use std::fs;

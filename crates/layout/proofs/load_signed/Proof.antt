@@ -1,6 +1,6 @@
 -- `load_signed` meets its contract: as many numbers as there were turns stand in front. The measure is the numbers to come.
 -- Assumes nothing.
-use mathlib.Core.Path.{_≡_, _∙_}
+use mathlib.Core.Path.{_≡_, refl, _∙_}
 use Prim.Native.Nat.{_-_, _≤_}
 use native.Mathlib.Omega.{arith}
 use mir.Facts.{toZ-ofZ}
@@ -12,13 +12,13 @@ use Rattle.layout.proofs.load_signed.Statement.{statement}
 use Rattle.layout.proofs.load_signed.Tie as tie
 
 abbrev Inv-loop : tie.InvT-loop
-Inv-loop bytes at n values₀ k₀ values k = (k ≤ n) × (length values ≡ 1024) × (take k values ≡ signedFrom k bytes at)
+Inv-loop bytes at values₀ n k₀ values k = (k ≤ n) × (length values ≡ length values₀) × (take k values ≡ signedFrom k bytes at)
 
 abbrev μ-loop : tie.MeasureT-loop
-μ-loop bytes at n values₀ k₀ values k = n - k
+μ-loop bytes at values₀ n k₀ values k = n - k
 
 loop-holds : tie.Need-loop-holds Inv-loop μ-loop
-loop-holds c = (omega arith, search needs, signed-none _ _)
+loop-holds c = (omega arith, refl, signed-none _ _)
 
 mul-load32 : tie.Need-mul-load32 Inv-loop μ-loop
 mul-load32 c = search needs
@@ -32,11 +32,11 @@ load32-requires c κs = search needs
 from-bits-requires : tie.Need-from-bits-requires Inv-loop μ-loop
 from-bits-requires c κs = search needs
 
-mul-values : tie.Need-mul-values Inv-loop μ-loop
-mul-values c = search needs
+mul-t11 : tie.Need-mul-t11 Inv-loop μ-loop
+mul-t11 c = search needs
 
-array-set-from-values : tie.Need-array-set-from-values Inv-loop μ-loop
-array-set-from-values c = search needs
+slice-set-from-values : tie.Need-slice-set-from-values Inv-loop μ-loop
+slice-set-from-values c = search needs
 
 add-k : tie.Need-add-k Inv-loop μ-loop
 add-k c = search needs
@@ -53,11 +53,14 @@ loop-again c =
           (toZ-ofZ (record { sfits = c .from-bits .ok }) ∙ c .from-bits .ensures),
     )
 
+same-length : tie.Need-same-length Inv-loop μ-loop
+same-length c = search needs
+
 returns : tie.Need-returns Inv-loop μ-loop
 returns c =
     let l = c .before .loop in
     let e : l .k ≡ c .before .before .before .args .n = omega arith in
-    (l .inv .1, rw e at (l .inv .2))
+    rw e at (l .inv .2)
 
 pub load-signed-spec : {M : Type 1} → statement M
 load-signed-spec =
@@ -70,9 +73,10 @@ load-signed-spec =
     add-load32
     load32-requires
     from-bits-requires
-    mul-values
-    array-set-from-values
+    mul-t11
+    slice-set-from-values
     add-k
     loop-less
     loop-again
+    same-length
     returns)

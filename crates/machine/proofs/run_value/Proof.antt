@@ -5,8 +5,11 @@ use borrow.Author.Needs.{needs}
 use Rattle.machine.proofs.run_value.Statement.{statement}
 use Rattle.machine.proofs.run_value.Tie as tie
 
-check-requires : tie.Need-check-requires
-check-requires c κs = search needs
+blank-requires : tie.Need-blank-requires
+blank-requires c κs = search needs
+
+examine-requires : tie.Need-examine-requires
+examine-requires c κs = c .before .blank .ensures
 
 enum-known-number : tie.Need-enum-known-number
 enum-known-number c = search needs
@@ -18,10 +21,13 @@ enum-told : tie.Need-enum-told
 enum-told c = search needs
 
 run-legal-requires : tie.Need-run-legal-requires
-run-legal-requires c κs = legal _ _ _ (rw (c .before .before .enum-told .given .1) at (c .before .before .before .before .check .ensures))
+run-legal-requires c κs =
+    let told = c .before .before .before .enum-told .given .1 in
+    let answer = c .before .before .before .before .before .examine .ensures in
+    (legal _ _ _ (rw told at (answer .checks)), answer .places _ _ _ told)
 
 returns : tie.Need-returns
-returns c = rw (c .refused .ensures) (refused-early _ _ _ _ _ _ (rw (c .before .before .number .given .1) at (c .before .before .before .before .check .ensures)))
+returns c = rw (c .refused .ensures) (refused-early _ _ _ _ _ _ (rw (c .before .before .number .given .1) at (c .before .before .before .before .examine .ensures .checks)))
 
 same-length : tie.Need-same-length
 same-length c = search needs
@@ -36,7 +42,8 @@ pub run-value-spec : {M : Type 1} → statement M
 run-value-spec =
     tie.close
     (tie.spec
-    check-requires
+    blank-requires
+    examine-requires
     enum-known-number
     refused-requires
     enum-told

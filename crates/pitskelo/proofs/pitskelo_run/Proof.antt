@@ -1,8 +1,10 @@
--- `pitskelo_run` meets its contract: a state of another length is refused at its place in the order; else what the run of what the bytes hold leaves is stored.
+-- `pitskelo_run` meets its contract: a state of another length is refused at its place in the order, and a plan by its check; else what the run of what the
+-- bytes hold leaves is stored.
 -- Assumes nothing.
+use mathlib.Core.Path.{sym}
 use native.Mathlib.Omega.{arith}
 use Rattle.pitskelo.proofs.Running.{cut}
-use Rattle.pitskelo.proofs.RunCalls.{odd-run, refused-run, accepted-run}
+use Rattle.pitskelo.proofs.RunCalls.{odd-run, plan-run, refused-run, accepted-run}
 use borrow.Author.Needs.{needs}
 use Rattle.pitskelo.proofs.pitskelo_run.Statement.{statement}
 use Rattle.pitskelo.proofs.pitskelo_run.Tie as tie
@@ -13,23 +15,40 @@ odd-state-requires c κs = search needs
 returns : tie.Need-returns
 returns c = odd-run _ (c .before .if1 .taken) (c .odd-state .ensures)
 
+blank-requires : tie.Need-blank-requires
+blank-requires c κs = search needs
+
+plan-refusal-requires : tie.Need-plan-refusal-requires
+plan-refusal-requires c κs = search needs
+
+returns-2 : tie.Need-returns-2
+returns-2 c = plan-run _ (c .before .before .before .before .if1 .left) (c .before .plan-refusal .ensures .number) (c .if2 .taken)
+
 word-count-requires : tie.Need-word-count-requires
 word-count-requires c κs = search needs
 
 load-words-requires : tie.Need-load-words-requires
 load-words-requires c κs = search needs
 
-load-state-requires : tie.Need-load-state-requires
-load-state-requires c κs = search needs
+load-cells-requires : tie.Need-load-cells-requires
+load-cells-requires c κs = search needs
+
+load-marks-requires : tie.Need-load-marks-requires
+load-marks-requires c κs = search needs
+
+load-regs-requires : tie.Need-load-regs-requires
+load-regs-requires c κs = search needs
 
 array-share-prefix-words : tie.Need-array-share-prefix-words
 array-share-prefix-words c = search needs
 
 slice-aggregate-run-all : tie.Need-slice-aggregate-run-all
-slice-aggregate-run-all c = cut _ 512 _ (omega (arith, c .before .before .before .before .word-count .ensures)) (c .before .before .before .load-words .ensures .0)
+slice-aggregate-run-all c = cut _ 512 _ (omega (arith, c .before .before .before .before .before .before .before .before .before .word-count .ensures)) (c .before .before .before .before .before .before .before .before .load-words .ensures .0)
 
 run-all-requires : tie.Need-run-all-requires
-run-all-requires c κs = search needs
+run-all-requires c κs =
+    let plan = c .before .before .before .before .before .before .before .before .before .before .before .before .before .before .before .plan-refusal .ensures .accepted (c .before .before .before .before .before .before .before .before .before .before .before .before .before .before .if2 .left) in
+    (plan .0, plan .1, search needs, search needs)
 
 refusal-requires : tie.Need-refusal-requires
 refusal-requires c κs = search needs
@@ -43,14 +62,22 @@ same-length-2 c = search needs
 same-length-3 : tie.Need-same-length-3
 same-length-3 c = search needs
 
-returns-2 : tie.Need-returns-2
-returns-2 c =
+returns-3 : tie.Need-returns-3
+returns-3 c =
     let r = c .before .before .before .before .before .before in
-    refused-run _ _ (r .before .before .before .before .before .before .before .before .if1 .left) (r .before .before .before .before .before .before .before .word-count .ensures) (r .before .before .before .before .before .before .load-words .ensures .1) (r .before .before .before .before .load-state .ensures)
-    (r .run-all .ensures) (c .before .refusal .ensures) (c .if2 .taken)
+    refused-run _ _ (r .before .before .before .before .before .before .before .before .before .before .before .before .before .before .before .before .before .before .before .if1 .left) (r .before .before .before .before .before .before .before .before .before .before .before .before .before .before .word-count .ensures) (r .before .before .before .before .before .before .before .before .before .before .before .before .before .load-words .ensures .1)
+    (r .before .before .before .before .before .before .before .load-regs .ensures, r .before .before .before .before .before .before .before .before .before .before .before .load-cells .ensures, r .before .before .before .before .before .before .before .before .before .load-marks .ensures) (r .run-all .ensures .0) (c .before .refusal .ensures) (c .if3 .taken)
 
-store-state-requires : tie.Need-store-state-requires
-store-state-requires c κs = search needs
+slice-aggregate-store-parts : tie.Need-slice-aggregate-store-parts
+slice-aggregate-store-parts c = sym (c .before .before .before .before .before .before .before .before .before .run-all .ensures .1)
+
+slice-aggregate-store-parts-2 : tie.Need-slice-aggregate-store-parts-2
+slice-aggregate-store-parts-2 c = sym (c .before .before .before .before .before .before .before .before .before .before .run-all .ensures .2)
+
+store-parts-requires : tie.Need-store-parts-requires
+store-parts-requires c κs =
+    let sizes = c .before .before .before .before .before .before .before .before .before .before .run-all .ensures in
+    (c .before .before .before .before .before .before .before .before .before .before .before .before .before .before .before .before .before .before .before .before .before .before .before .before .before .before .before .before .before .if1 .left, sizes .1, sizes .2)
 
 kind-requires : tie.Need-kind-requires
 kind-requires c κs = search needs
@@ -64,11 +91,12 @@ same-length-5 c = search needs
 same-length-6 : tie.Need-same-length-6
 same-length-6 c = search needs
 
-returns-3 : tie.Need-returns-3
-returns-3 c =
-    let r = c .before .before .before .before .before .before .before .before .before .before .before .before in
-    accepted-run _ _ (r .before .before .before .before .before .before .before .before .if1 .left) (r .before .before .before .before .before .before .before .word-count .ensures) (r .before .before .before .before .before .before .load-words .ensures .1) (r .before .before .before .before .load-state .ensures)
-    (r .run-all .ensures) (c .before .before .before .before .before .before .before .refusal .ensures) (c .before .before .before .before .before .before .if2 .left) (c .before .before .before .store-state .ensures) (c .kind .ensures)
+returns-4 : tie.Need-returns-4
+returns-4 c =
+    let r = c .before .before .before .before .before .before .before .before .before .before .before .before .before .before in
+    accepted-run _ _ (r .before .before .before .before .before .before .before .before .before .before .before .before .before .before .before .before .before .before .before .if1 .left) (r .before .before .before .before .before .before .before .before .before .before .before .before .before .before .word-count .ensures) (r .before .before .before .before .before .before .before .before .before .before .before .before .before .load-words .ensures .1)
+    (r .before .before .before .before .before .before .before .load-regs .ensures, r .before .before .before .before .before .before .before .before .before .before .before .load-cells .ensures, r .before .before .before .before .before .before .before .before .before .load-marks .ensures) (r .run-all .ensures .0) (c .before .before .before .before .before .before .before .before .before .refusal .ensures)
+    (c .before .before .before .before .before .before .before .before .if3 .left) (c .before .before .before .store-parts .ensures) (c .kind .ensures)
 
 pub pitskelo-run-spec : {M : Type 1} → statement M
 pitskelo-run-spec =
@@ -76,9 +104,14 @@ pitskelo-run-spec =
     (tie.spec
     odd-state-requires
     returns
+    blank-requires
+    plan-refusal-requires
+    returns-2
     word-count-requires
     load-words-requires
-    load-state-requires
+    load-cells-requires
+    load-marks-requires
+    load-regs-requires
     array-share-prefix-words
     slice-aggregate-run-all
     run-all-requires
@@ -86,10 +119,12 @@ pitskelo-run-spec =
     same-length
     same-length-2
     same-length-3
-    returns-2
-    store-state-requires
+    returns-3
+    slice-aggregate-store-parts
+    slice-aggregate-store-parts-2
+    store-parts-requires
     kind-requires
     same-length-4
     same-length-5
     same-length-6
-    returns-3)
+    returns-4)

@@ -1,15 +1,17 @@
--- `program::check` meets its contract: the computed answer is the one that the grounds allow.
+-- `program::check` meets its contract.
 -- Assumes nothing.
-use Rattle.program.proofs.Grounds.{ruled}
 use borrow.Author.Needs.{needs}
 use Rattle.program.proofs.check.Statement.{statement}
 use Rattle.program.proofs.check.Tie as tie
 
-decide-requires : tie.Need-decide-requires
-decide-requires c κs = search needs
+blank-requires : tie.Need-blank-requires
+blank-requires c κs = search needs
+
+examine-requires : tie.Need-examine-requires
+examine-requires c κs = c .before .blank .ensures
 
 returns : tie.Need-returns
-returns c = record { is = c .decide .ensures; ruled = rw (c .decide .ensures) (ruled _) }
+returns c = c .examine .ensures .checks
 
 pub check-spec : {M : Type 1} → statement M
-check-spec = tie.close (tie.spec decide-requires returns)
+check-spec = tie.close (tie.spec blank-requires examine-requires returns)

@@ -3,7 +3,7 @@
 use Prim.Native.Nat.{_≤_}
 use native.Mathlib.Omega.{arith}
 use lib.ListN.{length}
-use Rattle.recovery.proofs.Recovering.{decodes, Answered, answered, refused-words, refused-journal, refused-damaged, restored, found-within, found-exclude}
+use Rattle.recovery.proofs.Recovering.{Answered, answered, refused-words, refused-journal, refused-damaged, restored, found-within, found-exclude}
 use borrow.Author.Needs.{needs}
 use Rattle.recovery.proofs.recover_legal.Statement.{statement}
 use Rattle.recovery.proofs.recover_legal.Tie as tie
@@ -14,14 +14,14 @@ start c = c .before .before .before .before .before
 
 -- what is known when scan has answered
 answers : (c : tie.After-scan)
-    → let s = start (c .before .before .before) .args in
-    Answered (s .program .now) (s .sets .now) (c .before .before .places .result) (s .journal .now) (c .scan .result .answer) (c .scan .result .values)
+    → let s = start (c .before) .args in
+    Answered (s .program .now) (s .sets .now) (s .table .now) (s .journal .now) (c .scan .result .answer) (c .scan .result .values)
 answers c =
-    let short = c .before .before .before in
+    let short = c .before in
     let s = start short in
     let words : 512 ≤ length (s .args .sets .now) = omega (arith, short .before .if1 .left) in
     let size : length (s .args .journal .now) ≤ 65536 = omega (arith, short .if2 .left) in
-    answered _ _ _ _ (s .pre) (c .before .before .places .ensures) words size (c .scan .ensures)
+    answered _ _ _ _ (s .pre .0, s .pre .2) (s .pre .1) words size (c .scan .ensures)
 
 refused-requires : tie.Need-refused-requires
 refused-requires c κs = search needs
@@ -39,13 +39,9 @@ returns-2 c =
     let s = c .before .before .before .before .before .before in
     rw (c .refused2 .ensures) (refused-journal _ _ _ (s .pre .0) (c .before .before .if1 .left) (c .before .if2 .taken))
 
-places-requires : tie.Need-places-requires
-places-requires c κs = decodes (start c .pre .0)
-
 scan-requires : tie.Need-scan-requires
 scan-requires c κs =
-    let short = c .before .before in
-    (short .if2 .left, omega (arith, start short .pre .1, short .before .before .before .before .shared-slice-known .given 0))
+    (c .if2 .left, omega (arith, start c .pre .2, c .before .before .before .before .shared-slice-known .given 0))
 
 enum-told : tie.Need-enum-told
 enum-told c = search needs
@@ -64,7 +60,7 @@ cast-marks-by c = search needs
 
 marks-by-requires : tie.Need-marks-by-requires
 marks-by-requires c κs =
-    let found = c .before .before .before .before in
+    let found = c .before .before .before in
     found-exclude (answers (found .before .before .before)) (found .answer .given .1)
 
 returns-3 : tie.Need-returns-3
@@ -72,7 +68,7 @@ returns-3 c = rw (c .refused3 .ensures) (refused-damaged (answers (c .before .be
 
 returns-4 : tie.Need-returns-4
 returns-4 c =
-    let made = c .before .before .before in
+    let made = c .before .before in
     let found = made .before .before in
     restored (answers (found .before .before .before)) _ _ _ (found .answer .given .1) (made .regs-of .ensures) (c .marks-by .ensures)
 
@@ -84,7 +80,6 @@ recover-legal-spec =
     returns
     refused-requires-2
     returns-2
-    places-requires
     scan-requires
     enum-told
     refused-requires-3

@@ -5,8 +5,11 @@ use borrow.Author.Needs.{needs}
 use Rattle.recovery.proofs.recover_value.Statement.{statement}
 use Rattle.recovery.proofs.recover_value.Tie as tie
 
-check-requires : tie.Need-check-requires
-check-requires c κs = search needs
+blank-requires : tie.Need-blank-requires
+blank-requires c κs = search needs
+
+examine-requires : tie.Need-examine-requires
+examine-requires c κs = c .before .blank .ensures
 
 enum-known-number : tie.Need-enum-known-number
 enum-known-number c = search needs
@@ -21,10 +24,14 @@ cast-recover-legal : tie.Need-cast-recover-legal
 cast-recover-legal c = search needs
 
 recover-legal-requires : tie.Need-recover-legal-requires
-recover-legal-requires c κs = legal (rw (c .before .cells .given .1) at (c .before .before .before .check .ensures))
+recover-legal-requires c κs =
+    let told = c .before .before .cells .given .1 in
+    let answer = c .before .before .before .before .examine .ensures in
+    let known = legal (rw told at (answer .checks)) in
+    (known .0, answer .places _ _ _ told, known .1)
 
 returns : tie.Need-returns
-returns c = rw (c .refused .ensures) (refused-program _ _ _ (rw (c .before .before .number .given .1) at (c .before .before .before .before .check .ensures)))
+returns c = rw (c .refused .ensures) (refused-program _ _ _ (rw (c .before .before .number .given .1) at (c .before .before .before .before .examine .ensures .checks)))
 
 returns-2 : tie.Need-returns-2
 returns-2 c = search needs
@@ -33,7 +40,8 @@ pub recover-value-spec : {M : Type 1} → statement M
 recover-value-spec =
     tie.close
     (tie.spec
-    check-requires
+    blank-requires
+    examine-requires
     enum-known-number
     refused-requires
     enum-known-cells

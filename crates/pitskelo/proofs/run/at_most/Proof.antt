@@ -1,4 +1,4 @@
--- `at_most` meets its contract: the rest, cut to 1,024 and to the budget.
+-- `at_most` meets its contract: the rest, cut to the room and to the budget.
 -- Assumes nothing.
 use mathlib.Core.Logic.{⊎-elim}
 use borrow.Author.Needs.{needs}

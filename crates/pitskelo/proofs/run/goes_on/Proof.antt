@@ -30,10 +30,10 @@ returns-3 : tie.Need-returns-3
 returns-3 c = search needs
 
 returns-4 : tie.Need-returns-4
-returns-4 c = rw (c .enum-told4 .given .1) refl
+returns-4 c = rw (c .before .enum-told4 .given .1) refl
 
 returns-5 : tie.Need-returns-5
-returns-5 c = rw (c .enum-told5 .given .1) refl
+returns-5 c = rw (c .before .enum-told5 .given .1) refl
 
 pub goes-on-spec : {M : Type 1} → statement M
 goes-on-spec =

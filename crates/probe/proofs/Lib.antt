@@ -1,2 +1,0 @@
-mod Probing
-mod Outcomes
