@@ -3,7 +3,7 @@
 use mathlib.Core.Path.{_≡_, refl, sym, ap, _∙_}
 use mathlib.Core.Bool.{Bool, true, false, cond}
 use mathlib.Core.List.{List, [], _∷_, _++_, append-assoc}
-use Prim.Native.Nat.{ℕ, suc, _+_, _-_, _*_, _≤_, _<_}
+use Prim.Native.Nat.{ℕ, zero, suc, _+_, _-_, _*_, _≤_, _<_}
 use native.Mathlib.Nat.{add-zero}
 use native.Mathlib.Numerals.{add-one}
 use native.Mathlib.Omega.{arith}
@@ -90,10 +90,11 @@ cells-next s cell b h e =
     let n : 256 - cell ≡ suc (256 - (cell + 1)) = omega arith in
     rw (n, e, add-one cell)
 
--- past the last there is none
-cells-none : (s : List ℕ) (cell : ℕ) → 256 ≤ cell → cellsFrom s cell ≡ []
+-- where the set has none of the k cells from `cell` on, there is none
+cells-none : (s : List ℕ) (cell k : ℕ) → ((j : ℕ) → cell ≤ j → j < cell + k → has s j ≡ 0) → membersFrom s cell k ≡ []
 unfolding membersFrom
-cells-none s cell h = let e : 256 - cell ≡ 0 = omega arith in rw e
+cells-none s cell zero h = refl
+cells-none s cell (suc k) h = rw (h cell (omega arith) (omega arith)) (cells-none s (suc cell) k (λ j a b. h j (omega arith) (omega arith)))
 
 module _ {s values : List ℕ} {c : Commit} {before now : List ℕ} {at cell : ℕ} (f : Filling s values c before now at cell) where
   -- more bytes stand behind the text
@@ -131,14 +132,17 @@ module _ {s values : List ℕ} {c : Commit} {before now : List ℕ} {at cell : �
     below = omega arith;
   }
 
-  -- past the last cell the commit alone is to follow
-  filling-end : 256 ≤ cell → image (checkpointOf s values c) ≡ f .text ++ commitImage c
-  unfolding recordsImage recordsOf
-  filling-end h = f .whole ∙ ap (λ (cells : List ℕ). f .text ++ restOf values c cells) (cells-none s cell h)
+  module _ {n : ℕ} (h : n ≤ cell) (none : (j : ℕ) → n ≤ j → j < 256 → has s j ≡ 0) where
+    -- past the last cell the commit alone is to follow
+    filling-end : image (checkpointOf s values c) ≡ f .text ++ commitImage c
+    unfolding recordsImage recordsOf
+    filling-end =
+        f .whole
+        ∙ ap (λ (cells : List ℕ). f .text ++ restOf values c cells) (cells-none s cell (256 - cell) (λ j a b. none j (omega arith) (omega (arith, f .below))))
 
-  pub filling-done : 256 ≤ cell → {t : List ℕ} → t ≡ sets now at (commitImage c)
-      → (at + 14 ≡ length (image (checkpointOf s values c))) × (t ≡ sets before 0 (image (checkpointOf s values c)))
-  filling-done h e = (
-    omega (arith, f .offset, ap length (filling-end h), length-append (f .text) (commitImage c), commit-length c),
-    filling-sets (commitImage c) e ∙ ap (sets before 0) (sym (filling-end h)),
-  )
+    pub filling-done : {t : List ℕ} → t ≡ sets now at (commitImage c)
+        → (at + 14 ≡ length (image (checkpointOf s values c))) × (t ≡ sets before 0 (image (checkpointOf s values c)))
+    filling-done e = (
+      omega (arith, f .offset, ap length filling-end, length-append (f .text) (commitImage c), commit-length c),
+      filling-sets (commitImage c) e ∙ ap (sets before 0) (sym filling-end),
+    )

@@ -10,10 +10,11 @@ use word::store16;
 use word::store32;
 ghost use mathlib.Core.Path.{_≡_};
 ghost use mathlib.Core.List.{List};
-ghost use Prim.Native.Nat.{ℕ, _+_, _≤_};
+ghost use Prim.Native.Nat.{ℕ, _+_, _≤_, _<_};
 ghost use lib.ListN.{length, getD};
 ghost use lib.Dec.{leb};
 ghost use lib.Seq.{sets};
+ghost use Rattle.cellset.specs.Bits.{has};
 ghost use Rattle.journal.specs.Format.{recordImage, commitImage, image};
 ghost use Rattle.journal.specs.declared.Commit;
 ghost use Rattle.journal.specs.Writing.{checkpointOf};
@@ -111,13 +112,20 @@ fn commit_into(buffer: &mut [u8; 1550], at: usize, c: Commit)
     buffer[at + 13] = 0x5a;
 }
 
-// All bytes of the checkpoint, from the buffer's start on; gives their number.
-pub fn image_into(buffer: &mut [u8; 1550], s: CellSet, values: &[u32; 256], c: Commit) -> usize
+// All bytes of the checkpoint of a set of cells below n, from the buffer's start on; gives their number.
+pub fn image_into(
+    buffer: &mut [u8; 1550],
+    s: CellSet,
+    values: &[u32; 256],
+    c: Commit,
+    n: usize,
+) -> usize
+    requires { ⌜ (n ≤ 256) × ((j : ℕ) → n ≤ j → j < 256 → has (s .words) j ≡ 0) ⌝ }
     ensures { λ r. ⌜ (r ≡ length (image (checkpointOf (s .words) (now (values .entry)) c))) × (now (buffer .exit) ≡ sets (now (buffer .entry)) 0 (image (checkpointOf (s .words) (now (values .entry)) c))) ⌝ }
 {
     let mut at: usize = 0;
     let mut cell: usize = 0;
-    while cell < 256 {
+    while cell < n {
         if contains(s, cell as u8) {
             record_into(buffer, at, cell as u8, values[cell]);
             at += 6;

@@ -11,9 +11,9 @@ use lib.IntN.{ℤ}
 use lib.ListN.{length, take, drop, take-append-drop}
 use lib.Seq.{sets, sets-eq, length-take-le}
 use Rattle.program.specs.Grounds.{Checks}
-use Rattle.program.specs.Places.{Places, Decodes}
+use Rattle.program.specs.Places.{Places}
 use Rattle.program.specs.declared.Checked.the-variants as checked
-use Rattle.program.proofs.Accepted.{accepted, decodes-accepted}
+use Rattle.program.proofs.Accepted.{accepted}
 use Rattle.program.proofs.Grounds.{accepted-values}
 use Rattle.program.proofs.Tests.{bool-cases}
 use Rattle.machine.specs.declared.Ended.{Ended}
@@ -27,10 +27,6 @@ use Rattle.machine.specs.Ready.{Legal, Ready, Good, standing, RunIs}
 -- check's answer tells it
 pub legal : {p : List ℕ} (a b x : ℕ) → Checks p (checked.Program a b x) → Legal p
 legal a b x h = record { cells = a; instructions = b; excludes = x; accepted = sym (h .is) }
-
--- its table of places can be made
-pub decodes : {p : List ℕ} → Legal p → Decodes p
-decodes h = decodes-accepted _ (accepted _ (sym (h .accepted)))
 
 -- it is not empty and not too long
 pub size : {p : List ℕ} → Legal p → (0 < length p) × (length p ≤ 2048)

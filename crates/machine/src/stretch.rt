@@ -42,14 +42,15 @@ fn make(r: Regs, p: &[u8], cells: &[u32; 256], marks: &[u8; 256], buffer: &mut [
     requires { ⌜ (r .pc < 2048) × (r .exclude < 2048) × (byte (now p) (r .pc) ≡ 0x0E) ⌝ }
     ensures { λ k. ⌜ (k ≤ 1550) × ((l : List ℕ) → (k ≡ length (imageAt (now (p .entry)) (machineOf r (now (cells .entry)) (now (marks .entry)) l))) × (now (buffer .exit) ≡ sets (now (buffer .entry)) 0 (imageAt (now (p .entry)) (machineOf r (now (cells .entry)) (now (marks .entry)) l)))) ⌝ }
 {
-    let s = stored_cells(marks, cell_count(p));
+    let n = cell_count(p);
+    let s = stored_cells(marks, n);
     let commit = Commit {
         place: after(r.pc as usize, CHECKPOINT) as u16,
         exclude: r.exclude as u16,
         readings: r.readings,
         outputs: r.outputs,
     };
-    image_into(buffer, s, cells, commit)
+    image_into(buffer, s, cells, commit, n)
 }
 
 // The registers after m more bytes of a save of `total`.

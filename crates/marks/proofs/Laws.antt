@@ -8,6 +8,8 @@ use Prim.Native.Nat.{ℕ, zero, suc, _+_, _≤_, _<_}
 use native.Mathlib.Omega.{arith}
 use lib.ListN.{length, getD, length-set, List·getD-eq-default}
 use lib.Seq.{getD-set-same, getD-set-other}
+use borrow.Author.Tests.{le-ltb}
+use Rattle.cellset.specs.Bits.{has}
 use Rattle.cellset.specs.Sets.{SetIs}
 use Rattle.cellset.specs.Members.{membersFrom, members}
 use Rattle.cellset.proofs.Bits.{le-or-lt}
@@ -148,3 +150,7 @@ stored-same n ms h c (suc k) l = rw (h .members c (omega arith), stored-same n m
 pub stored-members : (n : ℕ) (ms : List ℕ) {s : List ℕ} → SetIs s (toStore n ms) → members s ≡ storedCells n ms
 unfolding members storedCells
 stored-members n ms h = stored-same n ms h 0 256 (omega arith)
+
+-- a save of n cells holds none behind them
+pub stored-none : (n : ℕ) (ms : List ℕ) {s : List ℕ} → SetIs s (toStore n ms) → (c : ℕ) → n ≤ c → c < 256 → has s c ≡ 0
+stored-none n ms h c a b = h .members c b ∙ rw (le-ltb c n a)

@@ -9,10 +9,10 @@ use Prim.Native.Nat.{ℕ, zero, suc, _+_, _-_, _*_, _/_, _%_, _^_, _≤_, _<_, m
 use native.Mathlib.Nat.{lt-of-lt-of-le, mul-le-mul-right, suc-mul}
 use native.Mathlib.Omega.{arith}
 use lib.Bits.{block-half, block-odd}
-use lib.Dec.{ltb}
+use lib.Dec.{ltb, leb}
 use lib.Pow.{pow-pos, pow-mono, pow-add, shr-shr, high}
 use lib.ListN.{getD}
-use borrow.Author.Tests.{lt-ltb, le-leb}
+use borrow.Author.Tests.{lt-ltb, le-ltb, le-leb, lt-leb}
 use mir.Val.{boolByte}
 use Rattle.cellset.specs.Bits.{bit, within}
 use Rattle.cellset.specs.Sets.{SetIs}
@@ -38,6 +38,20 @@ store-cut n ms c h = rw (lt-ltb c 256 h, le-leb 0 c zero-le) (both (isStored (ma
     both true false = refl
     both false true = refl
     both false false = refl
+
+-- ---- words of few cells
+
+-- a word whose first cell is none of n holds 0
+abbrev pub nearby : ℕ → List ℕ → ℕ → ℕ
+nearby n ms c = cond (leb n (64 * (c / 64))) 0 (toStore 256 ms c)
+
+-- cut at n, nothing is lost by it
+pub near-cut : (n : ℕ) (ms : List ℕ) (c : ℕ) → c < 256 → min (nearby n ms c) (within 0 n c) ≡ toStore n ms c
+near-cut n ms c h =
+    ⊎-elim
+    (λ (p : n ≤ 64 * (c / 64)). rw (le-leb n (64 * (c / 64)) p, le-ltb c n (omega arith)) (omega arith))
+    (λ (p : 64 * (c / 64) < n). rw (lt-leb n (64 * (c / 64)) p) (store-cut n ms c h))
+    (le-or-lt n (64 * (c / 64)))
 
 -- ---- bits from fewer bits
 
@@ -119,6 +133,12 @@ module _ {f : ℕ → ℕ} {first w k : ℕ} (q : Filled f first w k) where
   -- at the end all 64 are there
   pub filled-done : k ≤ 0 → (j : ℕ) → j < 64 → bit w j ≡ f (first + j)
   filled-done h j l = q .made .1 j (omega arith) ∙ ap f (omega arith)
+
+-- the bits of `word_below` are such a word's
+pub made-near : (n : ℕ) (ms : List ℕ) (first : ℕ) {w : ℕ} → 64 * (first / 64) ≡ first → w < 2 ^ 64
+    → ((k : ℕ) → k < 64 → bit w k ≡ cond (leb n first) 0 (toStore 256 ms (first + k))) → Made (nearby n ms) first 64 w
+made-near n ms first e h b =
+    (h, λ k l. let at : first ≡ 64 * ((first + k) / 64) = omega arith in b k l ∙ ap (λ (x : ℕ). cond (leb n x) 0 (toStore 256 ms (first + k))) at)
 
 -- ---- a set from its four words
 module _ (f : ℕ → ℕ) {p q r s : ℕ} (w₀ : Made f 0 64 p) (w₁ : Made f 64 64 q) (w₂ : Made f 128 64 r) (w₃ : Made f 192 64 s) where

@@ -2,8 +2,10 @@
 // that a save holds. Each function is equated with specs/Marks.antt, document 01's sentences about marks.
 use cellset::CellSet;
 ghost use mathlib.Core.Path.{_≡_};
+ghost use mathlib.Core.Bool.{cond};
 ghost use Prim.Native.Nat.{ℕ, _+_, _^_, _<_, _≤_};
 ghost use lib.ListN.{length};
+ghost use lib.Dec.{leb};
 ghost use Rattle.cellset.specs.Bits.{bit};
 ghost use Rattle.cellset.specs.Sets.{SetIs};
 ghost use Rattle.marks.specs.Marks.{byteOf, markOf, excluded, recovered, saved, isStored, inSet, excludedMarks, recoveredMarks, savedMarks, toStore};
@@ -180,16 +182,27 @@ fn stored_word(marks: &[u8; 256], first: usize) -> u64
     w
 }
 
+// That word, or 0 where none of its cells is one of n: a plan of few cells is spared the others.
+fn word_below(marks: &[u8; 256], first: usize, n: usize) -> u64
+    requires { ⌜ first ≤ 192 ⌝ }
+    ensures { λ r. ⌜ ((k : ℕ) → k < 64 → bit r k ≡ cond (leb n first) 0 (toStore 256 (now (marks .entry)) (first + k))) ⌝ }
+{
+    if n <= first {
+        return 0;
+    }
+    stored_word(marks, first)
+}
+
 // The cells that a save of n cells holds; n cuts the whole words, so that no mark is tested against it.
 pub fn stored_cells(marks: &[u8; 256], n: usize) -> CellSet
     ensures { λ r. ⌜ SetIs (r .words) (toStore n (now (marks .entry))) ⌝ }
 {
     let all = CellSet {
         words: [
-            stored_word(marks, 0),
-            stored_word(marks, 64),
-            stored_word(marks, 128),
-            stored_word(marks, 192),
+            word_below(marks, 0, n),
+            word_below(marks, 64, n),
+            word_below(marks, 128, n),
+            word_below(marks, 192, n),
         ],
     };
     cellset::intersection(all, cellset::below(n as u64))

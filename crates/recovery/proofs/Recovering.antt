@@ -10,9 +10,9 @@ use lib.ListN.{length, replicate}
 use borrow.Author.Tests.{lt-ltb, le-ltb, eq-eqb, ne-eqb}
 use Rattle.instruction.specs.Bytes.{byte, cellsOf}
 use Rattle.program.specs.Grounds.{Checks}
-use Rattle.program.specs.Places.{Decodes, Places, isExclude, excludeNumber}
+use Rattle.program.specs.Places.{Places, isExclude, excludeNumber}
 use Rattle.program.specs.declared.Checked.the-variants as checked
-use Rattle.program.proofs.Accepted.{accepted, decodes-accepted}
+use Rattle.program.proofs.Accepted.{accepted}
 use Rattle.program.proofs.Grounds.{accepted-values}
 use Rattle.marks.specs.Marks.{recoveredMarks}
 use Rattle.journal.specs.declared.Commit.{Commit}
@@ -33,10 +33,6 @@ use Rattle.recovery.specs.Recover.{refusalOf, regsOf, included, marksBy,
 -- check's answer tells it, and how many cells it has
 pub legal : {p : List ℕ} {a b x : ℕ} → Checks p (checked.Program a b x) → Legal p × (cellsOf p ≡ a)
 legal {p} {a} {b} {x} h = (record { cells = a; instructions = b; excludes = x; accepted = sym (h .is) }, sym (accepted p (h .is) .cells-are))
-
--- its table of places can be made
-pub decodes : {p : List ℕ} → Legal p → Decodes p
-decodes {p} h = decodes-accepted p (accepted p (sym (h .accepted)))
 
 -- ---- the marks
 

@@ -2,17 +2,18 @@
 -- Assumes nothing.
 use mathlib.Core.Path.{sym, _∙_}
 use mathlib.Core.Logic.{⊎-elim}
-use Prim.Native.Nat.{_-_}
+use Prim.Native.Nat.{_-_, _<_}
+use native.Mathlib.Omega.{arith}
 use borrow.Author.Needs.{needs}
 use Rattle.journal.proofs.Filling.{Filling, filling-first, filling-in, filling-out, filling-done}
 use Rattle.journal.proofs.writing.image_into.Statement.{statement}
 use Rattle.journal.proofs.writing.image_into.Tie as tie
 
 abbrev Inv-loop : tie.InvT-loop
-Inv-loop buffer₀ s values c at₀ cell₀ buffer at cell = Filling (s .words) values c buffer₀ buffer at cell
+Inv-loop buffer₀ s values c n at₀ cell₀ buffer at cell = Filling (s .words) values c buffer₀ buffer at cell
 
 abbrev μ-loop : tie.MeasureT-loop
-μ-loop buffer₀ s values c at₀ cell₀ buffer at cell = 256 - cell
+μ-loop buffer₀ s values c n at₀ cell₀ buffer at cell = n - cell
 
 loop-holds : tie.Need-loop-holds Inv-loop μ-loop
 loop-holds c =
@@ -49,7 +50,7 @@ loop-less c = search needs
 loop-again : tie.Need-loop-again Inv-loop μ-loop
 loop-again c =
     let contained = c .before .contains .ensures in
-    let below = c .before .before .loop-test .taken in
+    let below : c .before .before .before .loop .cell < 256 = omega (arith, c .before .before .loop-test .taken, c .before .before .before .before .pre .0) in
     let f = c .before .before .before .loop .inv in
     ⊎-elim
     (λ came. filling-in f below (sym contained ∙ came .0 .taken) (came .4 ∙ came .3 .ensures) (came .5))
@@ -65,7 +66,8 @@ add-result c = search needs
 returns : tie.Need-returns Inv-loop μ-loop
 returns c =
     let after-loop = c .before .before in
-    filling-done (after-loop .before .loop .inv) (after-loop .loop-test .left) (c .commit-into .ensures)
+    let start = after-loop .before .before in
+    filling-done (after-loop .before .loop .inv) (after-loop .loop-test .left) (start .pre .1) (c .commit-into .ensures)
 
 pub image-into-spec : {M : Type 1} → statement M
 image-into-spec =

@@ -1,6 +1,7 @@
 -- `machine::stretch::make` meets its contract.
 -- Assumes nothing.
 use borrow.Author.Needs.{needs}
+use Rattle.marks.proofs.Laws.{stored-none}
 use Rattle.machine.proofs.Stepping.{place-fits}
 use Rattle.machine.proofs.Stretching.{makes}
 use Rattle.machine.proofs.stretch.make.Statement.{statement}
@@ -18,14 +19,16 @@ cast-after c = search needs
 after-requires : tie.Need-after-requires
 after-requires c κs = search needs
 
-cast-t10 : tie.Need-cast-t10
-cast-t10 c = place-fits (c .before .before .before .before .before .pre .0) (c .after .ensures)
-
 cast-t11 : tie.Need-cast-t11
-cast-t11 c = search needs
+cast-t11 c = place-fits (c .before .before .before .before .before .pre .0) (c .after .ensures)
+
+cast-t12 : tie.Need-cast-t12
+cast-t12 c = search needs
 
 image-into-requires : tie.Need-image-into-requires
-image-into-requires c κs = search needs
+image-into-requires c κs =
+    let cells = c .before .before .before .before in
+    (cells .before .cell-count .ensures .1, stored-none _ (cells .before .before .before .args .marks .now) (cells .stored-cells .ensures))
 
 returns : tie.Need-returns
 returns c =
@@ -44,7 +47,7 @@ make-spec =
     stored-cells-requires
     cast-after
     after-requires
-    cast-t10
     cast-t11
+    cast-t12
     image-into-requires
     returns)
