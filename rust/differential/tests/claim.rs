@@ -8,7 +8,7 @@ use claim::{watch_list, watch_lists, Engine, Met};
 use differential::call::Library;
 
 /// The lists for the library, unless `CLAIM_LISTS` says another number.
-const LISTS: u64 = 60_000;
+const LISTS: u64 = 200_000;
 
 /// The lists within which an altered engine must be caught.
 const FEW: u64 = 300;
