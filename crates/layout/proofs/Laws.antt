@@ -11,7 +11,7 @@ use lib.ListN.{length, getD, set, take, drop, length-append, length-map}
 use lib.Seq.{sets, take-all, take-at, take-add, drop-at}
 use Rattle.word.specs.Word.{val, bitsOf}
 use Rattle.word.proofs.Bytes.{load-lt}
-use Rattle.machine.specs.declared.Regs.{Regs}
+use Rattle.step.specs.declared.Regs.{Regs}
 use Rattle.layout.specs.Numbers.{numbersFrom, bytesOfAll, signedFrom, signedBytes}
 use Rattle.layout.specs.Layout.{regsIn, cellsIn, marksIn, regsList, stateBytes}
 use Rattle.layout.proofs.Numbering.{numbers-length, numbers-split, numbers-lt, all-length, all-append, all-lt, below-append}

@@ -13,7 +13,7 @@ use mir.Val.{toZ, ofZ, SFits}
 use mir.Facts.{toZ-ofZ}
 use Rattle.word.specs.Word.{val, bitsOf}
 use Rattle.word.specs.Bytes.{bytesOf, loadOf, storeOf}
-use Rattle.machine.specs.declared.Regs.{Regs}
+use Rattle.step.specs.declared.Regs.{Regs}
 use Rattle.layout.specs.Numbers.{numbersFrom, bytesOfAll, signedFrom, signedBytes}
 use Rattle.layout.specs.Layout.{regsIn, regsList, stateBytes}
 use Rattle.layout.proofs.Numbering.{numbers-split, all-length, all-append, signed-all}

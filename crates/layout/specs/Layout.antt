@@ -3,8 +3,8 @@
 use Prim.Native.Nat.{ℕ}
 use mathlib.Core.List.{List, [], _∷_, _++_}
 use Rattle.word.specs.Bytes.{loadOf}
-use Rattle.machine.specs.declared.Regs.{Regs}
-use Rattle.machine.specs.State.{Machine, machineOf}
+use Rattle.step.specs.declared.Regs.{Regs}
+use Rattle.step.specs.State.{Machine, machineOf}
 use Rattle.layout.specs.Numbers.{numbersFrom, bytesOfAll}
 
 -- how many they are

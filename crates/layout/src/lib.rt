@@ -1,8 +1,8 @@
 // Numbers in buffers of bytes, and the state's bytes (docs/C-API.md has the layout): each function is
 // equated with specs/Numbers.antt and specs/Layout.antt. That the bytes of a state hold that state, and
 // that storing what was loaded changes nothing, is proved in proofs/Laws.antt.
-use machine::Regs;
-use machine::State;
+use step::Regs;
+use step::State;
 use word::from_bits;
 use word::load32;
 use word::load64;

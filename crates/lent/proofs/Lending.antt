@@ -24,11 +24,11 @@ use denote.Slice.{sliceVal}
 use denote.Steps.{opens, closes, owned, peeks}
 use denote.Struct.Steps.{spelt}
 use denote.Struct.Laws as LL
-use Rattle.machine.specs.declared.State.{State}
+use Rattle.step.specs.declared.State.{State}
 use Rattle.machine.specs.declared.Ran.{Ran}
 use Rattle.lent.specs.declared.Passed.{Passed}
-use Rattle.machine.proofs.State as T
-use Rattle.machine.proofs.State.Laws as T′
+use Rattle.step.proofs.State as T
+use Rattle.step.proofs.State.Laws as T′
 use Rattle.machine.proofs.Ran as N
 use Rattle.machine.proofs.Ran.Laws as N′
 use Rattle.lent.proofs.Passed as P

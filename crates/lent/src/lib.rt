@@ -4,13 +4,13 @@
 // state at exit, the journal, the outputs and the answer are those that the definitions of `machine` and
 // `recovery` make of the state at entry, `callOf` and `Recovers`, the same that the functions by value meet.
 use machine::Ended;
-use machine::State;
 use machine::run_value;
 use machine::step_value;
 use recovery::Recovered;
 use recovery::recover_value;
+use step::State;
 ghost use mathlib.Core.Path.{_≡_};
-ghost use Rattle.machine.specs.State.{envOf, machineOf};
+ghost use Rattle.step.specs.State.{envOf, machineOf};
 ghost use Rattle.machine.specs.Run.{outcome, callOf};
 ghost use Rattle.recovery.specs.Recover.{Recovers};
 ghost use Rattle.recovery.specs.Recover as recovery;

@@ -9,18 +9,18 @@ use lib.Dec.{eqb}
 use lib.IntN.{ℤ}
 use lib.ListN.{length, take}
 use lib.Seq.{sets, sets-eq, take-at}
-use Rattle.program.specs.Check.{answerOf, checkOf}
+use Rattle.program.specs.Check.{answerOf, checkOf, numberOf}
 use Rattle.program.specs.Grounds.{Ruled}
 use Rattle.program.specs.declared.Checked.{Checked}
 use Rattle.program.specs.declared.Checked.the-variants as checked
 use Rattle.program.proofs.Grounds.{ruled, accepted-values}
 use Rattle.program.proofs.Tests.{bool-cases}
-use Rattle.machine.specs.State.{Env, Machine}
-use Rattle.machine.specs.Run.{Call, numberOf, lateRefusal, refusalOf, runOf}
-use Rattle.machine.specs.Ready.{Legal, Good}
+use Rattle.step.specs.State.{Env, Machine}
+use Rattle.machine.specs.Run.{Call, lateRefusal, refusalOf, runOf}
+use Rattle.step.specs.Ready.{Legal, Good}
 use Rattle.machine.proofs.Laws.{good-run}
 use Rattle.machine.proofs.Calls.{late-left}
-use Rattle.machine.proofs.Tables.{ready}
+use Rattle.step.proofs.Tables.{ready}
 
 -- what an accepted call relies on
 pub record Accepts (e : Env) (m : Machine) : Type 0 where

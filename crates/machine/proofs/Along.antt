@@ -19,12 +19,12 @@ use Rattle.execution.specs.Effects.{Effect, effectOf, target, readingsAfter, ou
 use Rattle.execution.specs.Plain.{plainOf}
 use Rattle.execution.proofs.Laws.{Quiet, quiet-on, quiet-goes, quiet-writes, plain-quiet, plain-some}
 use Rattle.machine.specs.declared.quiet.Flow.{Flow}
-use Rattle.machine.specs.State.{Env, Machine, machineOf}
-use Rattle.machine.specs.Step.{effectAt, isSaves, excludeAfter, marksAfter, performed, executedOf, stepOf, dueOpcode, givenBy, takenBy, givenOf, takenOf}
+use Rattle.step.specs.State.{Env, Machine, machineOf}
+use Rattle.step.specs.Step.{effectAt, isSaves, excludeAfter, marksAfter, performed, executedOf, stepOf, dueOpcode, givenBy, takenBy, givenOf, takenOf}
 use Rattle.machine.specs.Run.{Call, exitBefore, stepped, runOf}
-use Rattle.machine.specs.Ready.{Ready, Good}
+use Rattle.step.specs.Ready.{Ready, Good}
 use Rattle.machine.specs.Quiet.{flowed, Base, regsAt, callIn, Idle, Along}
-use Rattle.machine.proofs.Keeping.{good-step}
+use Rattle.step.proofs.Keeping.{good-step}
 
 -- ---- a run and its next step
 pub run-step : (e : Env) (ρ : List ℤ) (room left : ℕ) (c : Call) → exitBefore (e .program) (suc left) (length ρ) room c ≡ none

@@ -18,9 +18,10 @@ use Rattle.program.proofs.Grounds.{accepted-values}
 use Rattle.program.proofs.Tests.{bool-cases}
 use Rattle.machine.specs.declared.Ended.{Ended}
 use Rattle.machine.specs.declared.Pass.{Pass}
-use Rattle.machine.specs.State.{envOf, Machine, machineOf, soundOf}
+use Rattle.step.specs.State.{envOf, Machine, machineOf, soundOf}
 use Rattle.machine.specs.Run.{lateRefusal, refusalOf, outcome, outcomeOf, refusedWith, runOf, callOf, started}
-use Rattle.machine.specs.Ready.{Legal, Ready, Good, standing, RunIs}
+use Rattle.step.specs.Ready.{Legal, Ready, Good}
+use Rattle.machine.specs.Standing.{standing, RunIs}
 
 -- ---- an accepted program
 

@@ -19,7 +19,7 @@ use Rattle.execution.specs.Effects.{cellsIn}
 use Rattle.execution.specs.Plain.{Moved, moved, plainOf}
 use Rattle.execution.proofs.Laws.{plain-none}
 use Rattle.machine.specs.declared.quiet.Flow.{Flow}
-use Rattle.machine.specs.Ready.{Legal}
+use Rattle.step.specs.Ready.{Legal}
 use Rattle.machine.specs.Quiet.{flowed, flowAt, QuietIs}
 use Rattle.machine.proofs.Starting.{legal-next, legal-after}
 use Rattle.machine.proofs.Along.{along-refl, along-trans, plain-along, take-along, give-along}

@@ -18,11 +18,11 @@ use Rattle.execution.specs.Effects.{Effect, stops, on, goes, writes, takes, giv
 use Rattle.program.proofs.Tests.{bool-cases, clash, and-both}
 use Rattle.machine.specs.declared.Ended.{Ended}
 use Rattle.machine.specs.declared.Ended.the-variants.{Stopped, Spent, NoReading, BufferFull}
-use Rattle.machine.specs.State.{Env, Machine}
-use Rattle.machine.specs.Step.{stepOf, executedOf, effectAt, dueOpcode, givenBy, takenBy, givenOf, takenOf}
-use Rattle.machine.specs.Ready.{Ready, Good}
+use Rattle.step.specs.State.{Env, Machine}
+use Rattle.step.specs.Step.{stepOf, executedOf, effectAt, dueOpcode, givenBy, takenBy, givenOf, takenOf}
+use Rattle.step.specs.Ready.{Ready, Good}
 use Rattle.machine.specs.Run.{Call, Finish, exitBefore, stepped, runOf, started}
-use Rattle.machine.proofs.Keeping.{good-step}
+use Rattle.step.proofs.Keeping.{good-step}
 
 -- ---- the four exits
 

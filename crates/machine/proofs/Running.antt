@@ -14,13 +14,14 @@ use Rattle.machine.specs.declared.Pass.{Pass}
 use Rattle.machine.specs.declared.quiet.Flow.{Flow}
 use Rattle.machine.specs.declared.run.Exit.{Exit}
 use Rattle.machine.specs.declared.Stand.{Stand}
-use Rattle.machine.specs.State.{Env, Machine, machineOf}
-use Rattle.machine.specs.Step.{givenOf}
+use Rattle.step.specs.State.{Env, Machine, machineOf}
+use Rattle.step.specs.Step.{givenOf}
 use Rattle.machine.specs.Run.{Call, exitBefore, stepped, runOf, started}
 use Rattle.machine.specs.Stretch.{StoreIs}
-use Rattle.machine.specs.Ready.{Ready, Good, standing, Within, exitOf, RushIs, TurnIs, RunIs}
+use Rattle.step.specs.Ready.{Ready, Good}
+use Rattle.machine.specs.Standing.{standing, Within, exitOf, RushIs, TurnIs, RunIs}
 use Rattle.machine.specs.Quiet.{Base, regsAt, callIn, Along, flowAt, QuietIs}
-use Rattle.machine.proofs.Keeping.{good-step}
+use Rattle.step.proofs.Keeping.{good-step}
 use Rattle.machine.proofs.Turns.{Open, open-none, none-open}
 
 -- ---- `rush`

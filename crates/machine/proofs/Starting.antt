@@ -21,7 +21,7 @@ use Rattle.program.proofs.Tests.{bool-cases, and-both}
 use Rattle.program.proofs.Accepted.{Accepted, accepted, start-within, start-whole, start-cells, start-next, start-successors}
 use Rattle.execution.specs.Effects.{effectOf, cellsIn, nextOf}
 use Rattle.execution.specs.Plain.{plainBy, plainOf, Fetches}
-use Rattle.machine.specs.Ready.{Legal}
+use Rattle.step.specs.Ready.{Legal}
 
 -- ---- tables
 

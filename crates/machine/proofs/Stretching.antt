@@ -20,16 +20,16 @@ use Rattle.execution.specs.Effects.{nextOf}
 use Rattle.marks.specs.Marks.{toStore, savedMarks}
 use Rattle.journal.specs.Format.{image}
 use Rattle.journal.specs.Writing.{checkpointOf}
-use Rattle.machine.specs.declared.Regs.{Regs}
+use Rattle.step.specs.declared.Regs.{Regs}
 use Rattle.machine.specs.declared.Pass.{Pass}
-use Rattle.machine.specs.State.{Env, Machine, machineOf, checkpointAt, imageAt, sizeAt}
-use Rattle.machine.specs.Step.{onJournal, storedOf, stepOf, dueOpcode, givenOf, takenOf}
+use Rattle.step.specs.State.{Env, Machine, machineOf, checkpointAt, imageAt, sizeAt}
+use Rattle.step.specs.Step.{onJournal, storedOf, stepOf, dueOpcode, givenOf, takenOf}
 use Rattle.machine.specs.Run.{Call, exitBefore, stepped, runOf}
-use Rattle.machine.specs.Ready.{Ready, Good}
+use Rattle.step.specs.Ready.{Ready, Good}
 use Rattle.machine.specs.Stretch.{storedRegs, StoreIs}
-use Rattle.machine.proofs.Facts.{sound-facts}
-use Rattle.machine.proofs.Stepping.{image-same, size-small, storing, stores}
-use Rattle.machine.proofs.Keeping.{good-step}
+use Rattle.step.proofs.Facts.{sound-facts}
+use Rattle.step.proofs.Stepping.{image-same, size-small, storing, stores}
+use Rattle.step.proofs.Keeping.{good-step}
 
 -- ---- bytes copied
 

@@ -28,11 +28,12 @@ use Rattle.execution.specs.Effects as effects
 use Rattle.machine.specs.declared.Ended.{Ended}
 use Rattle.machine.specs.declared.Ended.the-variants.{Stopped, Spent, NoReading, BufferFull}
 use Rattle.machine.specs.declared.Pass.{Pass}
-use Rattle.machine.specs.declared.Regs.{Regs}
-use Rattle.machine.specs.State.{Env, Machine, machineOf, sizeAt, fitsAt, kindsSound, soundOf}
-use Rattle.machine.specs.Step.{effectAt, isSaves, performed, begun, executedOf, erasedOf, storedOf, stepOf, dueOpcode, givenBy, takenBy, givenOf, takenOf}
+use Rattle.step.specs.declared.Regs.{Regs}
+use Rattle.step.specs.State.{Env, Machine, machineOf, sizeAt, fitsAt, kindsSound, soundOf}
+use Rattle.step.specs.Step.{effectAt, isSaves, performed, begun, executedOf, erasedOf, storedOf, stepOf, dueOpcode, givenBy, takenBy, givenOf, takenOf}
 use Rattle.machine.specs.Run.{Call, exitBefore, stepped}
-use Rattle.machine.specs.Ready.{Legal, Ready, standing, TurnIs}
+use Rattle.step.specs.Ready.{Legal, Ready}
+use Rattle.machine.specs.Standing.{standing, TurnIs}
 
 -- ---- the opcode that is due
 

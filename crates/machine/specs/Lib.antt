@@ -1,6 +1,4 @@
-pub mod State
-pub mod Step
 pub mod Run
-pub mod Ready
+pub mod Standing
 pub mod Quiet
 pub mod Stretch

@@ -7,11 +7,11 @@ use mathlib.Core.List.{List}
 use lib.IntN.{ℤ}
 use lib.ListN.{length, take, drop}
 use Rattle.program.specs.Places.{isStart}
-use Rattle.machine.specs.declared.Regs.{Regs}
+use Rattle.step.specs.declared.Regs.{Regs}
 use Rattle.machine.specs.declared.quiet.Flow.{Flow}
-use Rattle.machine.specs.State.{Env, machineOf}
+use Rattle.step.specs.State.{Env, machineOf}
 use Rattle.machine.specs.Run.{Call, runOf}
-use Rattle.machine.specs.Ready.{Ready, Good}
+use Rattle.step.specs.Ready.{Ready, Good}
 
 -- one step further, to t, with so many readings and outputs more
 abbrev pub flowed : Flow → (t n m : ℕ) → Flow

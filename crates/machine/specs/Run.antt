@@ -8,13 +8,11 @@ use lib.IntN.{ℤ, pos}
 use lib.ListN.{length, getD}
 use lib.Seq.{sets}
 use lib.Dec.{eqb, ltb}
-use Rattle.program.specs.Check.{Answer, checkOf}
-use Rattle.program.specs.declared.Checked.{Checked}
-use Rattle.program.specs.declared.Checked.the-variants as checked
+use Rattle.program.specs.Check.{Answer, numberOf, checkOf}
 use Rattle.machine.specs.declared.Ended.{Ended}
 use Rattle.machine.specs.declared.Ended.the-variants.{Refused, Stopped, Spent, NoReading, BufferFull}
-use Rattle.machine.specs.State.{Env, Machine, soundOf}
-use Rattle.machine.specs.Step.{stepOf, dueOpcode, givenOf, takenOf}
+use Rattle.step.specs.State.{Env, Machine, soundOf}
+use Rattle.step.specs.Step.{stepOf, dueOpcode, givenOf, takenOf}
 
 -- where a run stands: the machine, "this call's steps, readings taken and outputs written"
 pub record Call : Type 0 where
@@ -65,10 +63,6 @@ runOf e ρ room (suc left) c = finishBy (exitBefore (e .program) (suc left) (len
 -- ---- a call
 
 -- "Rising order": 1 to 8 of the plan, 9 the words, 10 the state, 11 the chip; 0 where it is accepted
-abbrev pub numberOf : Checked → ℕ
-numberOf (checked.Program cells instructions excludes) = 0
-numberOf (checked.Refused n) = n
-
 unfoldable pub lateRefusal : List ℕ → (words : ℕ) → Machine → ℕ
 lateRefusal p words m =
     cond (ltb words 512) 9

@@ -8,12 +8,13 @@ use lib.IntN.{ℤ}
 use lib.ListN.{length}
 use lib.Dec.{eqb}
 use Rattle.instruction.specs.Bytes.{lengthOf}
-use Rattle.machine.specs.declared.Regs.{Regs}
+use Rattle.step.specs.declared.Regs.{Regs}
 use Rattle.machine.specs.declared.Pass.{Pass}
-use Rattle.machine.specs.State.{Env, machineOf}
-use Rattle.machine.specs.Step.{onJournal}
+use Rattle.step.specs.State.{Env, machineOf}
+use Rattle.step.specs.Step.{onJournal}
 use Rattle.machine.specs.Run.{runOf}
-use Rattle.machine.specs.Ready.{Ready, Good, standing}
+use Rattle.step.specs.Ready.{Ready, Good}
+use Rattle.machine.specs.Standing.{standing}
 
 -- the registers after m more bytes of a save of so many
 abbrev pub storedRegs : Regs → (m total : ℕ) → Regs

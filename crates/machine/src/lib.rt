@@ -1,44 +1,25 @@
-// The machine (document 01: 'Marks, steps and the chip'): its state, a step and a run.
+// A run (document 01: "Run is given a budget of steps and repeats steps"): the refusals, and steps of crate `step` until an
+// exit. Proved, for any program, words, state, journal, readings, outputs' places and budget: answer and buffers are
+// `callOf` of specs/Run.antt.
 mod quiet;
 mod run;
-mod sound;
-mod step;
 mod stretch;
 
 use program::Checked;
 use program::examine;
 use program::places::blank;
 use run::run;
-use sound::sound;
+use step::Regs;
+use step::State;
+use step::sound::sound;
 ghost use mathlib.Core.Path.{_≡_};
 ghost use mathlib.Core.List.{List};
 ghost use Prim.Native.Nat.{ℕ};
 ghost use lib.ListN.{length};
 ghost use Rattle.program.specs.Places.{Places};
-ghost use Rattle.machine.specs.State.{envOf, machineOf};
+ghost use Rattle.step.specs.State.{envOf, machineOf};
 ghost use Rattle.machine.specs.Run.{lateRefusal, outcome, callOf};
-ghost use Rattle.machine.specs.Ready.{Legal};
-
-// The registers: the place (offset of the instruction due), the last EXCLUDE executed or 0, the readings
-// taken and the outputs given, the kind of stop, the write position, the bytes to erase, and 0 or one more
-// than the bytes stored of the save at work.
-pub struct Regs {
-    pub pc: u32,
-    pub exclude: u32,
-    pub readings: u32,
-    pub outputs: u32,
-    pub stop: u32,
-    pub write: u32,
-    pub erase: u32,
-    pub saving: u32,
-}
-
-// The state: the registers, the cells' patterns and their marks' bytes.
-pub struct State {
-    pub regs: Regs,
-    pub cells: [u32; 256],
-    pub marks: [u8; 256],
-}
+ghost use Rattle.step.specs.Ready.{Legal};
 
 // How a run ended: refused, stopped with its kind, budget spent, no reading left, output buffer full.
 pub enum Ended {

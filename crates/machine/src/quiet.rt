@@ -17,7 +17,7 @@ ghost use Rattle.word.specs.Word.{val, bitsOf};
 ghost use Rattle.instruction.specs.Bytes.{byte, lengthOf};
 ghost use Rattle.program.specs.Places.{isStart};
 ghost use Rattle.execution.specs.Effects.{cellsIn};
-ghost use Rattle.machine.specs.Ready.{Legal};
+ghost use Rattle.step.specs.Ready.{Legal};
 ghost use Rattle.machine.specs.Quiet.{flowed, QuietIs};
 
 // Where the inner loop stands: the place, and its steps, readings taken and outputs written.

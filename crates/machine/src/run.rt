@@ -1,13 +1,13 @@
 // A run: steps until one of the four exits, the inner loop wherever it can.
 use crate::Ended;
 use crate::Pass;
-use crate::Regs;
 use crate::Stand;
 use crate::quiet::Flow;
 use crate::quiet::quiet;
-use crate::step::step;
 use crate::stretch::store_some;
 use instruction::byte_at;
+use step::Regs;
+use step::step;
 use word::from_bits;
 ghost use mathlib.Core.Path.{_≡_};
 ghost use mathlib.Core.Bool.{true};
@@ -21,10 +21,11 @@ ghost use Rattle.instruction.specs.Bytes.{byte};
 ghost use Rattle.program.specs.Places.{isStart};
 ghost use Rattle.execution.specs.Effects.{cellsIn};
 ghost use Rattle.machine.specs.Quiet.{regsAt};
-ghost use Rattle.machine.specs.State.{envOf, machineOf};
-ghost use Rattle.machine.specs.Step.{dueOpcode};
+ghost use Rattle.step.specs.State.{envOf, machineOf};
+ghost use Rattle.step.specs.Step.{dueOpcode};
 ghost use Rattle.machine.specs.Run.{exitBefore};
-ghost use Rattle.machine.specs.Ready.{Legal, Ready, Good, Within, standing, exitOf, RushIs, TurnIs, RunIs};
+ghost use Rattle.step.specs.Ready.{Legal, Ready, Good};
+ghost use Rattle.machine.specs.Standing.{Within, standing, exitOf, RushIs, TurnIs, RunIs};
 
 // An exit before a step, or none.
 enum Exit {

@@ -1,22 +1,22 @@
 // The bytes of a save, as many at once as the budget allows: the checkpoint is made once, and not for every byte. It
 // only saves time: where it does nothing, the general step goes on.
 use crate::Pass;
-use crate::Regs;
-use crate::step::cell_count;
 use execution::after;
 use instruction::opcodes::CHECKPOINT;
 use journal::Commit;
 use journal::writing::image_into;
 use marks::keep;
 use marks::stored_cells;
+use step::Regs;
+use step::cell_count;
 ghost use mathlib.Core.Path.{_≡_};
 ghost use mathlib.Core.List.{List};
 ghost use Prim.Native.Nat.{ℕ, _+_, _-_, _<_, _≤_, min};
 ghost use lib.ListN.{length, take, drop};
 ghost use lib.Seq.{sets};
 ghost use Rattle.instruction.specs.Bytes.{byte};
-ghost use Rattle.machine.specs.State.{machineOf, imageAt};
-ghost use Rattle.machine.specs.Ready.{Good};
+ghost use Rattle.step.specs.State.{machineOf, imageAt};
+ghost use Rattle.step.specs.Ready.{Good};
 ghost use Rattle.machine.specs.Stretch.{storedRegs, StoreIs};
 
 // m bytes of the buffer, from `from` on, go to the journal, from `to` on.

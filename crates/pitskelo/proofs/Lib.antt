@@ -4,9 +4,6 @@ pub mod Buffers
 pub mod Carrying
 pub mod Analysing
 pub mod FixedBytes
-pub mod Stretches
 pub mod OddStates
-pub mod Running
-pub mod Whole
 pub mod Recovering
 pub mod RunCalls

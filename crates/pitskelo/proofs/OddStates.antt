@@ -7,13 +7,12 @@ use native.Mathlib.Omega.{arith}
 use borrow.Author.Tests.{lt-ltb, le-ltb, ne-eqb, eqb-false}
 use lib.Dec.{eqb, ltb}
 use lib.ListN.{length}
-use Rattle.program.specs.Check.{answerOf, checkOf}
+use Rattle.program.specs.Check.{answerOf, checkOf, numberOf}
 use Rattle.program.specs.Grounds.{Ruled}
 use Rattle.program.specs.Places.{Places}
 use Rattle.program.specs.declared.Checked.the-variants.{Program, Refused}
 use Rattle.program.proofs.Grounds.{accepted-values}
 use Rattle.program.proofs.Tests.{bool-cases}
-use Rattle.machine.specs.Run.{numberOf}
 use Rattle.pitskelo.specs.Runs.{oddState, PlanIs}
 
 -- a refused plan's number, and an accepted plan

@@ -5,8 +5,8 @@ use mathlib.Core.Path.{_≡_, sym, _∙_, ap, subst}
 use mathlib.Core.List.{List}
 use borrow.Author.Tests.{eq-eqb, ne-eqb}
 use lib.ListN.{length, take}
-use Rattle.machine.specs.declared.Regs.{Regs}
-use Rattle.machine.specs.State.{Env, envOf, Machine, machineOf}
+use Rattle.step.specs.declared.Regs.{Regs}
+use Rattle.step.specs.State.{Env, envOf, Machine, machineOf}
 use Rattle.recovery.specs.declared.Recovered.{Recovered}
 use Rattle.recovery.specs.declared.Recovered.the-variants.{Restored}
 use Rattle.recovery.specs.Recover.{Recovers, outcome, answerOf}

@@ -9,18 +9,18 @@ use lib.IntN.{ℤ}
 use lib.ListN.{length, getD, take}
 use lib.Seq.{sets}
 use Rattle.machine.specs.declared.Ended.{Ended}
-use Rattle.machine.specs.declared.Regs.{Regs}
-use Rattle.machine.specs.State.{Env, envOf, Machine, machineOf}
-use Rattle.program.specs.Check.{checkOf}
-use Rattle.machine.specs.Run.{numberOf, Outcome, outcome, refusalOf, callOf, answerOf}
+use Rattle.step.specs.declared.Regs.{Regs}
+use Rattle.step.specs.State.{Env, envOf, Machine, machineOf}
+use Rattle.program.specs.Check.{checkOf, numberOf}
+use Rattle.machine.specs.Run.{Outcome, outcome, refusalOf, callOf, answerOf}
 use Rattle.machine.proofs.Accepting.{outputs-first}
 use Rattle.layout.specs.Numbers.{numbersFrom, signedOf, signedBytes}
 use Rattle.layout.specs.Layout.{machineIn, bytesOfState}
-use Rattle.pitskelo.specs.Stretches.{WholeIs}
+use Rattle.stretches.specs.Stretches.{WholeIs}
 use Rattle.pitskelo.specs.Runs.{setsIn, oddState, RunLent, ranOn, runNumber, runDone, runRefused, runCallOf}
 use Rattle.pitskelo.proofs.OddStates.{odd-refused}
 use Rattle.pitskelo.proofs.Recovering.{words-in, Loaded, machine-loaded, carried}
-use Rattle.pitskelo.proofs.Running.{signed-of-length, call-number, call-values, call-refused}
+use Rattle.stretches.proofs.Running.{signed-of-length, call-number, call-values, call-refused}
 
 -- a call whose number is not 0 is a refusal
 refuses : (l : RunLent) → ¬ (runNumber l ≡ 0) → runCallOf l ≡ runRefused l (runNumber l)

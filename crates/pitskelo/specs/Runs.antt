@@ -7,11 +7,11 @@ use mathlib.Core.Bool.{cond}
 use lib.ListN.{length, take}
 use lib.Seq.{sets}
 use lib.Dec.{eqb, ltb}
-use Rattle.program.specs.Check.{checkOf}
+use Rattle.program.specs.Check.{checkOf, numberOf}
 use Rattle.program.specs.Places.{Places}
-use Rattle.machine.specs.State.{envOf}
-use Rattle.machine.specs.Ready.{Legal}
-use Rattle.machine.specs.Run.{numberOf, Outcome, callOf, answerOf}
+use Rattle.step.specs.State.{envOf}
+use Rattle.step.specs.Ready.{Legal}
+use Rattle.machine.specs.Run.{Outcome, callOf, answerOf}
 use Rattle.recovery.specs.Recover as recovery
 use Rattle.recovery.specs.Recover.{Recovers}
 use Rattle.layout.specs.Numbers.{numbersFrom, signedOf, signedBytes}

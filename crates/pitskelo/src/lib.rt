@@ -1,10 +1,12 @@
 // The C interface of the plan engine: `extern "C"` entries on numbers and byte slices, declared in
 // include/pitskelo.h. A slice is a pointer and then a length. The result is 0 where a call is
 // accepted, else the refusal's number of document 01; a refused call alters nothing that was lent.
-mod run;
+mod ended;
 mod words;
 
 use analysis::Analysed;
+use ended::kind;
+use ended::refusal;
 use layout::load_cells;
 use layout::load_marks;
 use layout::load_regs;
@@ -17,9 +19,7 @@ use program::examine;
 use program::places::blank;
 use recovery::Recovered;
 use recovery::recover_value;
-use run::kind;
-use run::refusal;
-use run::run_all;
+use stretches::run_all;
 use words::store_words;
 ghost use mathlib.Core.List.{[], _∷_};
 ghost use Prim.Native.Nat.{_/_, _≤_, min};

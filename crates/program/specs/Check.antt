@@ -24,6 +24,11 @@ abbrev pub answerOf : Checked → Answer
 answerOf (Program cells instructions excludes) = record { number = 0; values = cells ∷ instructions ∷ excludes ∷ [] }
 answerOf (Refused n) = record { number = n; values = [] }
 
+-- the number alone
+abbrev pub numberOf : Checked → ℕ
+numberOf (Program cells instructions excludes) = 0
+numberOf (Refused n) = n
+
 -- END or JUMP
 abbrev pub closes : ℕ → Bool
 closes k = eqb k 0x01 || eqb k 0x09

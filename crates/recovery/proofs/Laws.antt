@@ -8,7 +8,7 @@ use Rattle.journal.specs.declared.Scanned.{Scanned}
 use Rattle.journal.specs.declared.Scanned.the-variants.{Damaged, Found}
 use Rattle.journal.specs.Reading.{factsOf}
 use Rattle.journal.proofs.Fixed.{scan-fixed}
-use Rattle.machine.specs.State.{Env, Machine}
+use Rattle.step.specs.State.{Env, Machine}
 use Rattle.recovery.specs.declared.Recovered.the-variants.{Restored, Refused}
 use Rattle.recovery.specs.Recover.{Outcome, outcome, recoverOf, Recovers, refuses, reads}
 

@@ -22,9 +22,9 @@ use Rattle.journal.specs.Format.{Checkpoint}
 use Rattle.journal.specs.Reading.{Facts, factsOf, first, lastOf, Rising, none, one}
 use Rattle.journal.specs.Answer.{factsIn, Taken, Scans}
 use Rattle.journal.proofs.Fixed.{facts-same, within}
-use Rattle.machine.specs.declared.Regs.{Regs}
-use Rattle.machine.specs.State.{envOf, Machine, machineOf}
-use Rattle.machine.specs.Ready.{Legal, Ready}
+use Rattle.step.specs.declared.Regs.{Regs}
+use Rattle.step.specs.State.{envOf, Machine, machineOf}
+use Rattle.step.specs.Ready.{Legal, Ready}
 use Rattle.recovery.specs.declared.Recovered.the-variants.{Restored, Refused}
 use Rattle.recovery.specs.Recover.{refusalOf, regsOf, included, marksBy, outcome, recoverOf, Recovers, refuses, reads}
 

@@ -7,7 +7,7 @@ use mathlib.Core.List.{List, []}
 use lib.ListN.{length, replicate}
 use lib.Dec.{eqb, ltb}
 use Rattle.instruction.specs.Bytes.{cellsOf}
-use Rattle.program.specs.Check.{Answer, checkOf}
+use Rattle.program.specs.Check.{Answer, checkOf, numberOf}
 use Rattle.program.specs.Places.{excludeNumber}
 use Rattle.marks.specs.Marks.{recoveredMarks}
 use Rattle.journal.specs.declared.Commit.{Commit}
@@ -15,9 +15,8 @@ use Rattle.journal.specs.declared.Scanned.{Scanned}
 use Rattle.journal.specs.declared.Scanned.the-variants.{Damaged, Found}
 use Rattle.journal.specs.Reading.{factsOf}
 use Rattle.journal.specs.Answer.{Scans}
-use Rattle.machine.specs.declared.Regs.{Regs}
-use Rattle.machine.specs.State.{Env, Machine, machineOf}
-use Rattle.machine.specs.Run.{numberOf}
+use Rattle.step.specs.declared.Regs.{Regs}
+use Rattle.step.specs.State.{Env, Machine, machineOf}
 use Rattle.recovery.specs.declared.Recovered.{Recovered}
 use Rattle.recovery.specs.declared.Recovered.the-variants.{Restored, Refused}
 

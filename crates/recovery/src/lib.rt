@@ -6,21 +6,21 @@ use instruction::byte_at;
 use journal::Commit;
 use journal::Scanned;
 use journal::scan;
-use machine::Regs;
-use machine::State;
 use marks::recover;
 use program::Checked;
 use program::examine;
 use program::places::blank;
 use program::places::place_at;
+use step::Regs;
+use step::State;
 ghost use mathlib.Core.Path.{_≡_};
 ghost use mathlib.Core.Bool.{true};
 ghost use mathlib.Core.Logic.{_⊎_};
 ghost use Prim.Native.Nat.{_≤_};
 ghost use Rattle.instruction.specs.Bytes.{cellsOf};
 ghost use Rattle.program.specs.Places.{Places, isExclude};
-ghost use Rattle.machine.specs.State.{envOf, machineOf};
-ghost use Rattle.machine.specs.Ready.{Legal, Ready};
+ghost use Rattle.step.specs.State.{envOf, machineOf};
+ghost use Rattle.step.specs.Ready.{Legal, Ready};
 ghost use Rattle.recovery.specs.Recover.{regsOf, marksBy, outcome, Recovers};
 
 // The answer: the state is restored, or why not. `answerOf` of specs/Recover.antt gives document 01's number.

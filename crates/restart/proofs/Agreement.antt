@@ -7,7 +7,7 @@ use mathlib.Core.List.{List, [], _∷_}
 use mathlib.Core.Logic.{_⊎_, inl, inr}
 use native.Mathlib.Omega.{arith}
 use lib.IntN.{ℤ, pos}
-use Rattle.machine.proofs.Keeping.{cells-length}
+use Rattle.step.proofs.Keeping.{cells-length}
 use lib.ListN.{length, getD, set, take, List·getD-eq-default}
 use lib.Seq.{set-out, getD-set-same, getD-set-other}
 use lib.Dec.{eqb, ltb}
@@ -19,8 +19,8 @@ use Rattle.program.specs.Places.{isStart}
 use Rattle.program.proofs.Tests.{bool-cases}
 use Rattle.program.proofs.Accepted.{accepted, start-cells}
 use Rattle.analysis.specs.Paths.{Follows, Live, reads, later}
-use Rattle.machine.specs.Step.{givenBy, takenBy}
-use Rattle.machine.specs.Ready.{Legal}
+use Rattle.step.specs.Step.{givenBy, takenBy}
+use Rattle.step.specs.Ready.{Legal}
 use Rattle.restart.specs.Reference.{Frame, numberedFrom, frameAfter, readingAt, effectIn, stays, nextFrame, outputAt, takenAt}
 use Rattle.restart.specs.Claim.{Agrees}
 use Rattle.restart.proofs.Invariant.{Agree}

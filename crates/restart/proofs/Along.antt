@@ -12,8 +12,8 @@ use lib.Seq.{getD-take, getD-drop, take-suc, length-take-le}
 use lib.Dec.{eqb}
 use borrow.Author.Tests.{eqb-true, eqb-false}
 use Rattle.program.proofs.Tests.{bool-cases}
-use Rattle.machine.specs.State.{envOf, Machine}
-use Rattle.machine.specs.Step.{dueOpcode, givenOf, takenOf}
+use Rattle.step.specs.State.{envOf, Machine}
+use Rattle.step.specs.Step.{dueOpcode, givenOf, takenOf}
 use Rattle.machine.specs.Run.{Call, started, stepped}
 use Rattle.machine.proofs.Laws as laws
 use Rattle.machine.proofs.Laws.{Goes}

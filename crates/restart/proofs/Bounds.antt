@@ -17,8 +17,8 @@ use Rattle.instruction.specs.declared.Instruction.{Instruction}
 use Rattle.instruction.specs.declared.Instruction.the-variants.{End, Set, Copy, Add, Sub, Div, Read, Emit, Jump, Less, Get, Put, Exclude, Checkpoint}
 use Rattle.execution.specs.Effects.{Effect, stops, on, goes, writes, takes, gives, sets, saves, isFull, effectOf, tableCell}
 use Rattle.execution.specs.Effects.{readingsAfter, outputsAfter, cellsAfter, cellsIn}
-use Rattle.machine.specs.State.{Env, envOf, Machine, machineOf, sizeAt, fitsAt}
-use Rattle.machine.specs.Step.{effectAt, isSaves, performed, onJournal, begun, executedOf, erasedOf, storedOf, stepOf}
+use Rattle.step.specs.State.{Env, envOf, Machine, machineOf, sizeAt, fitsAt}
+use Rattle.step.specs.Step.{effectAt, isSaves, performed, onJournal, begun, executedOf, erasedOf, storedOf, stepOf}
 use Rattle.restart.specs.Claim.{Plan}
 use Rattle.restart.proofs.Invariant.{Small}
 

@@ -21,7 +21,7 @@ use Rattle.journal.specs.declared.Commit.{Commit}
 use Rattle.journal.specs.Reading.{factsOf, Absent, Once, Sound, savedIn}
 use Rattle.journal.specs.Writing.{recordsOf}
 use Rattle.journal.proofs.Written.{absent-saved}
-use Rattle.machine.specs.State.{Machine, checkpointAt}
+use Rattle.step.specs.State.{Machine, checkpointAt}
 use Rattle.restart.specs.Claim.{Plan}
 use Rattle.restart.proofs.Invariant.{markAt, Small}
 

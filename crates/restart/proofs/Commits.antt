@@ -11,7 +11,7 @@ use Rattle.program.proofs.Accepted.{accepted, start-first}
 use Rattle.journal.specs.declared.Commit.{Commit}
 use Rattle.journal.specs.Format.{Checkpoint}
 use Rattle.journal.specs.Reading.{factsOf, first, Rising, lastOf}
-use Rattle.machine.specs.Ready.{Legal}
+use Rattle.step.specs.Ready.{Legal}
 use Rattle.restart.proofs.Saves.{last-has}
 
 -- its EXCLUDE is one, or 0

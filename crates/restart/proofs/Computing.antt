@@ -14,8 +14,8 @@ use Rattle.marks.specs.Marks.{mapBelow, excludedMarks, savedMarks, recoveredMar
 use Rattle.journal.specs.Format.{fieldsImage, recordsImage, image, images}
 use Rattle.journal.specs.Reading.{lastOf, savedIn, savedValue}
 use Rattle.journal.specs.Writing.{recordsOf}
-use Rattle.machine.specs.State.{checkpointAt, imageAt, sizeAt, zeroFrom, marksFrom, soundOf}
-use Rattle.machine.specs.Step.{effectAt, performed, begun, executedOf, erasedOf, storedOf, stepOf, dueOpcode, givenOf, takenOf}
+use Rattle.step.specs.State.{checkpointAt, imageAt, sizeAt, zeroFrom, marksFrom, soundOf}
+use Rattle.step.specs.Step.{effectAt, performed, begun, executedOf, erasedOf, storedOf, stepOf, dueOpcode, givenOf, takenOf}
 use Rattle.machine.specs.Run as run
 use Rattle.machine.specs.Run.{exitBefore, stepped, runOf, lateRefusal, callOf}
 use Rattle.recovery.specs.Recover as recovery
@@ -24,7 +24,7 @@ use Rattle.restart.specs.Reference.{zeros, numberedFrom, frameAfter, eff
 use Rattle.restart.specs.History.{retires, tallied, talliedOver, outcomeOf, tallyAfter, ran}
 use Rattle.restart.specs.Claim.{stands, distinct}
 use Rattle.restart.specs.Rows.{ranFrom, smallSets}
-use Rattle.machine.proofs.Tables.{tabulated}
+use Rattle.step.proofs.Tables.{tabulated}
 use Rattle.restart.proofs.Outcomes.{valuesOf}
 
 unfoldable pub computing : Unit {0}

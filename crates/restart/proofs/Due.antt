@@ -12,9 +12,9 @@ use Rattle.instruction.specs.Bytes.{byte}
 use Rattle.execution.specs.Effects.{saves}
 use Rattle.program.specs.Places.{isStart}
 use Rattle.program.proofs.Tests.{bool-cases, and-both}
-use Rattle.machine.specs.State.{envOf, Machine, sizeAt, fitsAt}
-use Rattle.machine.specs.Step.{effectAt, isSaves, performed, begun, executedOf, erasedOf, storedOf, stepOf, dueOpcode, givenBy, takenBy, givenOf, takenOf}
-use Rattle.machine.specs.Ready.{Legal}
+use Rattle.step.specs.State.{envOf, Machine, sizeAt, fitsAt}
+use Rattle.step.specs.Step.{effectAt, isSaves, performed, begun, executedOf, erasedOf, storedOf, stepOf, dueOpcode, givenBy, takenBy, givenOf, takenOf}
+use Rattle.step.specs.Ready.{Legal}
 use Rattle.restart.specs.History.{Tally, commits, beginsSave, retires, tallied}
 use Rattle.restart.proofs.Effects.{saves-only, effect-checkpoint}
 

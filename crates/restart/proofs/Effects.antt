@@ -25,10 +25,10 @@ use Rattle.program.proofs.CellLaws.{start-refs}
 use Rattle.analysis.specs.Paths.{Follows, Live, reads, later}
 use Rattle.analysis.proofs.Certificates.{follows-start}
 use Rattle.analysis.proofs.Laws.{access-lt}
-use Rattle.machine.specs.Step.{isSaves}
-use Rattle.machine.specs.Ready.{Legal}
+use Rattle.step.specs.Step.{isSaves}
+use Rattle.step.specs.Ready.{Legal}
 use Rattle.machine.proofs.Laws.{push-effect}
-use Rattle.machine.proofs.Allowed.{Allowed, may-set, may-save, allowed}
+use Rattle.step.proofs.Allowed.{Allowed, may-set, may-save, allowed}
 
 -- ---- cells of an access
 

@@ -14,7 +14,7 @@ use lib.Dec.{eqb}
 use Rattle.instruction.specs.Bytes.{byte}
 use Rattle.program.proofs.Tests.{bool-cases, or-none}
 use Rattle.execution.specs.Effects.{Effect, stops, on, goes, writes, takes, gives, sets, saves, readingsAfter, outputsAfter}
-use Rattle.machine.specs.Step.{givenBy, takenBy}
+use Rattle.step.specs.Step.{givenBy, takenBy}
 use Rattle.restart.specs.Reference.{Frame, Numbered, numberedFrom, frameAfter, readingAt, effectIn, stays, nextFrame, outputAt, takenAt, gathered, refAt, emitted, taken}
 use Rattle.restart.specs.Claim.{sameValue, stands, distinct}
 

@@ -13,9 +13,9 @@ use Rattle.instruction.specs.Bytes.{byte}
 use Rattle.execution.specs.Effects.{Effect, stops, on, goes, writes, takes, gives, sets, saves, readingsAfter, outputsAfter}
 use Rattle.program.specs.Places.{isStart}
 use Rattle.program.proofs.Tests.{bool-cases}
-use Rattle.machine.specs.State.{envOf, Machine, sizeAt}
-use Rattle.machine.specs.Step.{effectAt, performed, begun, erasedOf, storedOf, stepOf, dueOpcode, givenBy, takenBy, givenOf, takenOf}
-use Rattle.machine.proofs.Facts.{sound-facts}
+use Rattle.step.specs.State.{envOf, Machine, sizeAt}
+use Rattle.step.specs.Step.{effectAt, performed, begun, erasedOf, storedOf, stepOf, dueOpcode, givenBy, takenBy, givenOf, takenOf}
+use Rattle.step.proofs.Facts.{sound-facts}
 use Rattle.machine.proofs.Laws as laws
 use Rattle.restart.specs.Reference.{Frame, frameOf, numberedFrom, readingAt, effectIn, stays, outputAt, takenAt, refAt, emitted, taken}
 use Rattle.restart.specs.History.{Tally, tallied}

@@ -18,8 +18,8 @@ use Rattle.analysis.proofs.Safety.{Inside}
 use Rattle.journal.specs.Format.{Checkpoint, image, images}
 use Rattle.journal.specs.Reading.{factsOf, first, lastOf, savedValue, Sound}
 use Rattle.journal.specs.Shape.{Shape}
-use Rattle.machine.specs.State.{Machine, checkpointAt}
-use Rattle.machine.specs.Ready.{Good}
+use Rattle.step.specs.State.{Machine, checkpointAt}
+use Rattle.step.specs.Ready.{Good}
 use Rattle.restart.specs.Reference.{Frame, frameOf, refAt}
 use Rattle.restart.specs.History.{Tally}
 use Rattle.restart.specs.Claim.{Resumes}

@@ -25,10 +25,10 @@ use Rattle.journal.specs.declared.Commit.{Commit}
 use Rattle.journal.specs.Format.{Checkpoint}
 use Rattle.journal.specs.Reading.{factsOf, first, lastOf, savedIn, savedValue, Rising}
 use Rattle.journal.proofs.Storing.{last-snoc, saved-snoc}
-use Rattle.machine.specs.State.{Env, envOf, Machine, machineOf, commitAt, checkpointAt}
-use Rattle.machine.specs.Step.{excludeAfter, marksAfter, performed, onJournal}
-use Rattle.machine.specs.Ready.{Legal, Good}
-use Rattle.machine.proofs.Facts.{sound-facts}
+use Rattle.step.specs.State.{Env, envOf, Machine, machineOf, commitAt, checkpointAt}
+use Rattle.step.specs.Step.{excludeAfter, marksAfter, performed, onJournal}
+use Rattle.step.specs.Ready.{Legal, Good}
+use Rattle.step.proofs.Facts.{sound-facts}
 use Rattle.recovery.specs.Recover.{regsOf, included, marksBy}
 use Rattle.restart.specs.Reference.{Frame, frameOf, frameAfter, effectIn, stays, nextFrame, refAt}
 use Rattle.restart.specs.Claim.{Plan, Safe, Resumes}

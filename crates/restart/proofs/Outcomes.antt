@@ -15,10 +15,10 @@ use Rattle.journal.specs.Shape.{Shape}
 use Rattle.journal.proofs.Torn.{Trimmed}
 use Rattle.journal.proofs.Back.{shape-whole, shape-reads, read-shape, read-back, not-damaged}
 use Rattle.journal.proofs.Fixed.{shape-found}
-use Rattle.machine.specs.State.{Env, Machine, machineOf}
+use Rattle.step.specs.State.{Env, Machine, machineOf}
 use Rattle.recovery.specs.Recover.{refusalOf, regsOf, marksBy, Outcome, outcome, recoverOf, Recovers, refuses, reads}
 use Rattle.recovery.specs.declared.Recovered.the-variants.{Restored}
-use Rattle.machine.proofs.Tables.{tabulated, tabulated-length, tabulated-at}
+use Rattle.step.proofs.Tables.{tabulated, tabulated-length, tabulated-at}
 
 -- the values are those saved
 pub record Values (js : List Checkpoint) (values : List ℕ) : Type 0 where

@@ -12,10 +12,10 @@ use Rattle.journal.specs.Format.{Checkpoint, image, images}
 use Rattle.journal.specs.Reading.{factsOf, first, lastOf, Sound}
 use Rattle.journal.specs.Shape.{Shape}
 use Rattle.journal.proofs.Storing.{images-snoc, stored-byte, completed-byte, erased-byte}
-use Rattle.machine.specs.State.{Env, Machine, checkpointAt, imageAt, sizeAt}
-use Rattle.machine.specs.Step.{erasedOf, storedOf, begun, performed}
-use Rattle.machine.specs.Ready.{Good}
-use Rattle.machine.proofs.Facts.{sound-facts}
+use Rattle.step.specs.State.{Env, Machine, checkpointAt, imageAt, sizeAt}
+use Rattle.step.specs.Step.{erasedOf, storedOf, begun, performed}
+use Rattle.step.specs.Ready.{Good}
+use Rattle.step.proofs.Facts.{sound-facts}
 use Rattle.restart.proofs.Invariant.{Phase, idle, saving}
 
 -- a list of no length is empty

@@ -13,8 +13,8 @@ use Rattle.cellset.proofs.Bits.{le-or-lt}
 use Rattle.instruction.specs.Bytes.{byte, instructionAt}
 use Rattle.execution.specs.Effects.{countFull, isFull, effectOf, readingsAfter, outputsAfter, stopAfter}
 use Rattle.program.proofs.Tests.{bool-cases}
-use Rattle.machine.specs.State.{Machine}
-use Rattle.machine.specs.Step.{dueOpcode}
+use Rattle.step.specs.State.{Machine}
+use Rattle.step.specs.Step.{dueOpcode}
 use Rattle.machine.specs.Run.{Outcome}
 use Rattle.machine.specs.declared.Ended.{Ended}
 use Rattle.machine.specs.declared.Ended.the-variants.{Stopped}

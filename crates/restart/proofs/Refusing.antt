@@ -9,7 +9,7 @@ use lib.IntN.{ℤ}
 use lib.ListN.{length}
 use lib.Dec.{eqb}
 use Rattle.program.proofs.Tests.{bool-cases}
-use Rattle.machine.specs.State.{Env, Machine}
+use Rattle.step.specs.State.{Env, Machine}
 use Rattle.machine.specs.Run.{Call, Outcome, started, refusalOf, refusedWith, callOf}
 use Rattle.machine.specs.declared.Ended.{Ended}
 use Rattle.machine.proofs.Laws.{Exits, stopped, spent, no-reading, buffer-full, run-exit}

@@ -20,9 +20,9 @@ use Rattle.journal.specs.declared.Commit.{Commit}
 use Rattle.journal.specs.Format.{Checkpoint, images}
 use Rattle.journal.specs.Reading.{Facts, factsOf, first, Rising, lastOf, savedValue}
 use Rattle.journal.specs.Shape.{Shape}
-use Rattle.machine.specs.State.{envOf, Machine}
-use Rattle.machine.specs.Ready.{Good}
-use Rattle.machine.proofs.Facts.{facts-sound, zero-from, marks-from}
+use Rattle.step.specs.State.{envOf, Machine}
+use Rattle.step.specs.Ready.{Good}
+use Rattle.step.proofs.Facts.{facts-sound, zero-from, marks-from}
 use Rattle.recovery.specs.Recover.{refusalOf, included, marksBy, Outcome, Recovers}
 use Rattle.recovery.specs.declared.Recovered.{Recovered}
 use Rattle.recovery.specs.declared.Recovered.the-variants.{Restored, Refused}

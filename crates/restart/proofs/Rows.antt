@@ -19,7 +19,7 @@ use Rattle.journal.specs.Format.{Checkpoint, fieldsImage, recordsImage, image, 
 use Rattle.journal.specs.Reading.{Facts, factsOf, first, Absent, Once, Sound, Rising, lastOf, savedIn, savedValue}
 use Rattle.journal.specs.Shape.{Shape}
 use Rattle.journal.proofs.Back.{erased-shape}
-use Rattle.machine.specs.State.{Env, Machine, machineOf}
+use Rattle.step.specs.State.{Env, Machine, machineOf}
 use Rattle.machine.specs.Run as run
 use Rattle.machine.specs.declared.Ended.{Ended}
 use Rattle.machine.specs.declared.Ended.the-variants.{NoReading, Spent}

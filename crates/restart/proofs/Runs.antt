@@ -6,7 +6,7 @@ use mathlib.Core.List.{List}
 use native.Mathlib.Omega.{arith}
 use lib.IntN.{ℤ}
 use lib.ListN.{length}
-use Rattle.machine.specs.State.{Env, envOf, Machine}
+use Rattle.step.specs.State.{Env, envOf, Machine}
 use Rattle.machine.specs.Run as run
 use Rattle.machine.specs.Run.{Finish, Outcome, started, runOf, refusalOf, callOf}
 use Rattle.machine.proofs.Accepting.{not-refused}

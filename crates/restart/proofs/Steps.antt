@@ -15,12 +15,12 @@ use Rattle.program.specs.Places.{isStart}
 use Rattle.program.proofs.Tests.{bool-cases}
 use Rattle.journal.specs.Format.{Checkpoint}
 use Rattle.journal.specs.Reading.{factsOf, first, lastOf, Sound}
-use Rattle.machine.specs.State.{envOf, Machine, checkpointAt, sizeAt}
-use Rattle.machine.specs.Step.{effectAt, performed, begun, erasedOf, storedOf, stepOf, dueOpcode}
-use Rattle.machine.specs.Ready.{Good}
-use Rattle.machine.proofs.Facts.{sound-facts}
-use Rattle.machine.proofs.Keeping.{good-step, step-length}
-use Rattle.machine.proofs.Tables.{ready}
+use Rattle.step.specs.State.{envOf, Machine, checkpointAt, sizeAt}
+use Rattle.step.specs.Step.{effectAt, performed, begun, erasedOf, storedOf, stepOf, dueOpcode}
+use Rattle.step.specs.Ready.{Good}
+use Rattle.step.proofs.Facts.{sound-facts}
+use Rattle.step.proofs.Keeping.{good-step, step-length}
+use Rattle.step.proofs.Tables.{ready}
 use Rattle.restart.specs.Reference.{Frame, frameOf, effectIn, stays}
 use Rattle.restart.specs.History.{Tally, tallied}
 use Rattle.restart.specs.Claim.{Plan, Safe}

@@ -12,9 +12,9 @@ use lib.ListN.{length}
 use lib.Dec.{ltb}
 use borrow.Author.Tests.{lt-ltb}
 use Rattle.cellset.proofs.Bits.{le-or-lt}
-use Rattle.machine.specs.State.{Machine}
-use Rattle.machine.specs.Ready.{Good}
-use Rattle.machine.proofs.Facts.{sound-facts}
+use Rattle.step.specs.State.{Machine}
+use Rattle.step.specs.Ready.{Good}
+use Rattle.step.proofs.Facts.{sound-facts}
 use Rattle.restart.specs.Reference.{Frame, refAt}
 use Rattle.restart.specs.History.{Tally}
 use Rattle.restart.proofs.Invariant.{Inv}

@@ -10,7 +10,7 @@ use lib.ListN.{length, length-replicate}
 use Rattle.journal.specs.Reading.{factsOf, lastOf, savedValue}
 use Rattle.journal.specs.Shape.{Shape}
 use Rattle.journal.proofs.Back.{erased-shape}
-use Rattle.machine.specs.State.{Machine}
+use Rattle.step.specs.State.{Machine}
 use Rattle.machine.proofs.Accepting.{not-refused}
 use Rattle.restart.specs.Reference.{Frame, zeros, refAt}
 use Rattle.restart.specs.History.{System, History, begins, refused-recovery, refused-run, recovers, crashes, runs, crashed-run}

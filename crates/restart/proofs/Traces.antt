@@ -6,7 +6,7 @@ use mathlib.Core.List.{List}
 use native.Mathlib.Omega.{arith}
 use lib.IntN.{ℤ}
 use lib.ListN.{length}
-use Rattle.machine.specs.State.{Env}
+use Rattle.step.specs.State.{Env}
 use Rattle.machine.specs.Run.{Call, Finish, stepped, runOf}
 use Rattle.machine.proofs.Laws.{Exits, Goes, exit-none, run-ends, makes-step, run-ind, steps-within, run-exit}
 

@@ -11,7 +11,7 @@ use Rattle.program.proofs.Tests.{clash}
 use Rattle.journal.specs.Format.{Checkpoint}
 use Rattle.journal.specs.Reading.{factsOf}
 use Rattle.journal.specs.Shape.{Shape}
-use Rattle.machine.specs.State.{envOf, Machine}
+use Rattle.step.specs.State.{envOf, Machine}
 use Rattle.machine.specs.Run.{Outcome}
 use Rattle.recovery.specs.Recover as recovery
 use Rattle.recovery.specs.Recover.{Recovers}

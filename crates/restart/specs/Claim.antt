@@ -20,9 +20,9 @@ use Rattle.analysis.specs.declared.Analysed.the-variants.{Sets}
 use Rattle.journal.specs.Format.{Checkpoint}
 use Rattle.journal.specs.Reading.{first, factsOf, lastOf, savedValue}
 use Rattle.journal.specs.Shape.{Shape}
-use Rattle.machine.specs.State.{envOf, Machine}
+use Rattle.step.specs.State.{envOf, Machine}
 use Rattle.machine.specs.Run.{refusalOf, Outcome}
-use Rattle.machine.specs.Ready.{Legal}
+use Rattle.step.specs.Ready.{Legal}
 use Rattle.machine.specs.declared.Ended.{Ended}
 use Rattle.machine.specs.declared.Ended.the-variants.{Stopped}
 use Rattle.recovery.specs.Recover as recovery

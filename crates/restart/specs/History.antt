@@ -8,7 +8,7 @@ use lib.IntN.{ℤ}
 use lib.ListN.{length, take, drop}
 use lib.Dec.{eqb, ltb}
 use Rattle.instruction.specs.Bytes.{byte}
-use Rattle.machine.specs.State.{Env, envOf, Machine, machineOf, sizeAt, fitsAt}
+use Rattle.step.specs.State.{Env, envOf, Machine, machineOf, sizeAt, fitsAt}
 use Rattle.machine.specs.Run.{Call, started, stepped, Outcome, callOf}
 use Rattle.machine.specs.declared.Ended.{Ended}
 use Rattle.machine.specs.declared.Ended.the-variants as ended

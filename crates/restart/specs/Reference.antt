@@ -8,8 +8,8 @@ use lib.ListN.{length, getD, take, replicate}
 use lib.Dec.{eqb, ltb}
 use Rattle.instruction.specs.Bytes.{byte, instructionAt}
 use Rattle.execution.specs.Effects.{Effect, effectOf, target, readingsAfter, outputsAfter, stopAfter, cellsAfter, cellsIn, nextOf}
-use Rattle.machine.specs.State.{Machine}
-use Rattle.machine.specs.Step.{givenBy, takenBy}
+use Rattle.step.specs.State.{Machine}
+use Rattle.step.specs.Step.{givenBy, takenBy}
 
 -- where a machine stands: its cells, its place, both counts, the kind of stop
 pub record Frame : Type 0 where

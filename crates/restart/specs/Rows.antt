@@ -16,7 +16,7 @@ use Rattle.analysis.specs.Rows.{row, deadBefore, deOf, roOf}
 use Rattle.marks.specs.declared.Mark.{Mark}
 use Rattle.marks.specs.declared.Mark.the-variants.{Pending, Dead}
 use Rattle.marks.specs.Marks.{excluded}
-use Rattle.machine.specs.State.{Env, envOf, Machine}
+use Rattle.step.specs.State.{Env, envOf, Machine}
 use Rattle.machine.specs.Run.{Outcome, callOf}
 use Rattle.machine.specs.declared.Ended.{Ended}
 use Rattle.machine.specs.declared.Ended.the-variants.{NoReading, Spent}

@@ -12,10 +12,10 @@ use Rattle.cellset.proofs.Bits.{le-or-lt}
 use Rattle.program.specs.Places.{isExclude}
 use Rattle.program.proofs.Accepted.{accepted}
 use Rattle.journal.specs.Format.{Checkpoint}
-use Rattle.machine.specs.State.{Machine, machineOf}
-use Rattle.machine.specs.Ready.{Good}
-use Rattle.machine.proofs.Facts.{sound-facts, mark-at}
-use Rattle.machine.proofs.Fetching.{start-below, exclude-start}
+use Rattle.step.specs.State.{Machine, machineOf}
+use Rattle.step.specs.Ready.{Good}
+use Rattle.step.proofs.Facts.{sound-facts, mark-at}
+use Rattle.step.proofs.Fetching.{start-below, exclude-start}
 use Rattle.layout.specs.Layout.{machineIn, bytesOfState}
 use Rattle.restart.specs.Reference.{Frame}
 use Rattle.restart.specs.History.{Tally}

@@ -7,12 +7,12 @@ use native.Mathlib.Omega.{arith}
 use lib.Dec.{eqb, ltb}
 use lib.ListN.{length, getD}
 use borrow.Author.Tests.{eqb-true, eqb-false, ne-eqb}
-use Rattle.program.specs.Check.{checkOf}
+use Rattle.program.specs.Check.{checkOf, numberOf}
 use Rattle.program.proofs.Tests.{bool-cases}
 use Rattle.journal.specs.declared.Scanned.{Scanned}
 use Rattle.journal.specs.declared.Scanned.the-variants.{Damaged, Found}
-use Rattle.machine.specs.State.{Env, Machine}
-use Rattle.machine.specs.Run.{numberOf, answerOf}
+use Rattle.step.specs.State.{Env, Machine}
+use Rattle.machine.specs.Run.{answerOf}
 use Rattle.machine.specs.declared.Ended.{Ended}
 use Rattle.machine.specs.declared.Ended.the-variants as ended
 use Rattle.recovery.specs.Recover as recovery

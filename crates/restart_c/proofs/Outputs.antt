@@ -19,8 +19,8 @@ use Rattle.instruction.specs.declared.Instruction.{Instruction}
 use Rattle.instruction.specs.declared.Instruction.the-variants.{End, Set, Copy, Add, Sub, Div, Read, Emit, Jump, Less, Get, Put, Exclude, Checkpoint}
 use Rattle.execution.specs.Effects.{isFull, effectOf, cellsIn}
 use Rattle.program.proofs.Tests.{bool-cases}
-use Rattle.machine.specs.State.{Env, Machine}
-use Rattle.machine.specs.Step.{effectAt, givenBy, givenOf}
+use Rattle.step.specs.State.{Env, Machine}
+use Rattle.step.specs.Step.{effectAt, givenBy, givenOf}
 use Rattle.machine.specs.Run.{Call, Finish, Outcome, started, stepped, runOf, outcomeOf, refusalOf, callOf}
 use Rattle.machine.proofs.Laws.{given-within}
 use Rattle.layout.specs.Numbers.{signedFrom, signedOf, signedBytes}

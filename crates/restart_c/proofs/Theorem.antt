@@ -6,7 +6,7 @@ use mathlib.Core.Bool.{Bool, true, false, cond}
 use mathlib.Core.List.{List, [], _∷_, _++_}
 use lib.IntN.{ℤ}
 use lib.ListN.{length, getD, take, replicate, length-replicate}
-use Rattle.machine.specs.State.{envOf, Machine}
+use Rattle.step.specs.State.{envOf, Machine}
 use Rattle.machine.specs.Run.{Outcome, started, callOf, answerOf}
 use Rattle.recovery.proofs.Laws.{journal-stays}
 use Rattle.layout.specs.Numbers.{signedOf}

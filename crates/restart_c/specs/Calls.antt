@@ -8,7 +8,7 @@ use mathlib.Core.List.{List, [], _++_}
 use lib.IntN.{ℤ}
 use lib.ListN.{length, getD, take, drop, replicate}
 use Rattle.machine.specs.Run.{started}
-use Rattle.machine.specs.State.{envOf}
+use Rattle.step.specs.State.{envOf}
 use Rattle.layout.specs.Numbers.{signedOf}
 use Rattle.layout.specs.Layout.{stateSize, machineIn}
 use Rattle.pitskelo.specs.Calls.{AnalyseCall}

@@ -2,9 +2,9 @@
 // write position, bytes to erase, place, last EXCLUDE, readings and outputs, and the values of cells 0 to 2.
 use crate::runs::state;
 use libc::STDOUT_FILENO;
-use machine::State;
 use recovery::Recovered;
 use recovery::recover_value;
+use step::State;
 
 fn number(n: u64) {
     io::write_all(STDOUT_FILENO, b" ");

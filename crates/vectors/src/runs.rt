@@ -3,9 +3,9 @@
 // outputs, and the bytes of the chip; for document 001's programs, the number of its cells and of those in each save.
 use libc::STDOUT_FILENO;
 use machine::Ended;
-use machine::Regs;
-use machine::State;
 use machine::run_value;
+use step::Regs;
+use step::State;
 
 fn number(n: u64) {
     io::write_all(STDOUT_FILENO, b" ");

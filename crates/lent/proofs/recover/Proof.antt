@@ -42,12 +42,12 @@ use denote.Triple.Spec.{Meets, tripleOf}
 use denote.Triple.Table.{entered, cited}
 use denote.Triple.Walked.{says, Stays, stay-ref, stay-dropped, walkOf, AllGo, goes-ref, goes-dropped, Walks, ends-at, walked, walk-meets}
 use denote.Exit.{yes}
-use Rattle.machine.specs.State.{envOf, machineOf}
+use Rattle.step.specs.State.{envOf, machineOf}
 use Rattle.recovery.specs.Recover.{Recovers, outcome}
-use Rattle.machine.specs.declared.State.{State}
+use Rattle.step.specs.declared.State.{State}
 use Rattle.recovery.specs.declared.Recovery.{Recovery}
-use Rattle.machine.proofs.State as T
-use Rattle.machine.proofs.State.Laws as T′
+use Rattle.step.proofs.State as T
+use Rattle.step.proofs.State.Laws as T′
 use Rattle.recovery.proofs.Recovery as N
 use Rattle.recovery.proofs.Recovery.Laws as N′
 use Rattle.recovery.proofs.Recovered as D

@@ -1,7 +1,7 @@
 -- `pitskelo_recover` meets its contract: a state of another length is refused at its place in the order; else recovery of what the bytes hold is stored.
 -- Assumes nothing.
 use native.Mathlib.Omega.{arith}
-use Rattle.pitskelo.proofs.Running.{cut}
+use Rattle.stretches.proofs.Running.{cut}
 use Rattle.pitskelo.proofs.Recovering.{odd-recovery, refused-recovery, done-recovery}
 use borrow.Author.Needs.{needs}
 use Rattle.pitskelo.proofs.pitskelo_recover.Statement.{statement}

@@ -3,7 +3,7 @@
 -- Assumes nothing.
 use mathlib.Core.Path.{sym}
 use native.Mathlib.Omega.{arith}
-use Rattle.pitskelo.proofs.Running.{cut}
+use Rattle.stretches.proofs.Running.{cut}
 use Rattle.pitskelo.proofs.RunCalls.{odd-run, plan-run, refused-run, accepted-run}
 use borrow.Author.Needs.{needs}
 use Rattle.pitskelo.proofs.pitskelo_run.Statement.{statement}

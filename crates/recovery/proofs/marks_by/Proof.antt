@@ -1,7 +1,7 @@
 -- `recovery::marks_by` meets its contract: all Include, or the marks by the words of the last EXCLUDE.
 -- Assumes nothing.
 use native.Mathlib.Omega.{arith}
-use Rattle.machine.proofs.Fetching.{exclude-words, exclude-number}
+use Rattle.step.proofs.Fetching.{exclude-words, exclude-number}
 use Rattle.recovery.proofs.Recovering.{stands, marks-none, marks-some}
 use borrow.Author.Needs.{needs}
 use Rattle.recovery.proofs.marks_by.Statement.{statement}

@@ -4,7 +4,7 @@ use borrow.Author.Needs.{needs}
 use mathlib.Core.Path.{_≡_, sym, _∙_}
 use mathlib.Core.Logic.{⊎-elim}
 use lib.Seq.{length-take-le}
-use Rattle.machine.specs.Ready.{standing}
+use Rattle.machine.specs.Standing.{standing}
 use Rattle.machine.proofs.Turns.{exit-stopped, exit-spent, exit-starved, exit-full, open-at, open-none}
 use Rattle.machine.proofs.run.exit_before.Statement.{statement}
 use Rattle.machine.proofs.run.exit_before.Tie as tie

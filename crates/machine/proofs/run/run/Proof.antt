@@ -6,9 +6,9 @@ use mathlib.Core.Option.{none}
 use lib.ListN.{length}
 use native.Mathlib.Omega.{arith}
 use borrow.Author.Needs.{needs}
-use Rattle.machine.specs.State.{Env, envOf, machineOf}
+use Rattle.step.specs.State.{Env, envOf, machineOf}
 use Rattle.machine.specs.Run.{Call, exitBefore}
-use Rattle.machine.specs.Ready.{standing, exitOf, TurnIs}
+use Rattle.machine.specs.Standing.{standing, exitOf, TurnIs}
 use Rattle.machine.proofs.Turns.{sound-start, legal-of, legal-within, ready-small}
 use Rattle.machine.proofs.Running.{rest-is, rest-length, Running, running-first, running-rush, running-store, running-ends}
 use Rattle.machine.proofs.Running.{running-left, running-due, turn-steps, running-turn}

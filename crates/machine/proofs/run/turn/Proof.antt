@@ -7,7 +7,7 @@ use native.Mathlib.Omega.{arith}
 use mir.Facts.{toZ-ofZ}
 use lib.ListN.{length}
 use borrow.Author.Needs.{needs}
-use Rattle.machine.specs.State.{Env, envOf}
+use Rattle.step.specs.State.{Env, envOf}
 use Rattle.machine.proofs.Turns.{Counted, none-open, sound-start, legal-within, turn-counts, turn-is}
 use Rattle.machine.proofs.run.turn.Statement.{statement}
 use Rattle.machine.proofs.run.turn.Tie as tie
@@ -16,7 +16,7 @@ use Rattle.machine.proofs.run.turn.Lts as lts
 use Rattle.machine.proofs.run.emitted_cell.Reads as emitted-cell-reads
 use Rattle.machine.proofs.run.first.Reads as first-reads
 use Rattle.machine.proofs.run.put_output.Reads as put-output-reads
-use Rattle.machine.proofs.step.step.Reads as step-reads
+use Rattle.step.proofs.step.Reads as step-reads
 use Rattle.word.proofs.from_bits.Reads as from-bits-reads
 
 -- the function's beginning, seen from after the step

@@ -2,7 +2,7 @@
 -- Assumes nothing.
 use borrow.Author.Needs.{needs}
 use Rattle.marks.proofs.Laws.{stored-none}
-use Rattle.machine.proofs.Stepping.{place-fits}
+use Rattle.step.proofs.Stepping.{place-fits}
 use Rattle.machine.proofs.Stretching.{makes}
 use Rattle.machine.proofs.stretch.make.Statement.{statement}
 use Rattle.machine.proofs.stretch.make.Tie as tie

@@ -6,7 +6,7 @@ use Prim.Native.Nat.{ℕ}
 use lib.ListN.{replicate, length-replicate}
 use native.Mathlib.Omega.{arith}
 use borrow.Author.Needs.{needs}
-use Rattle.machine.proofs.Stepping.{storing}
+use Rattle.step.proofs.Stepping.{storing}
 use Rattle.machine.proofs.Stretching.{Stretch, stretch, filled-length, marks-whole, marks-part, store-is}
 use Rattle.machine.proofs.stretch.store_some.Statement.{statement}
 use Rattle.machine.proofs.stretch.store_some.Tie as tie

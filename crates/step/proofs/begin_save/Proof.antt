@@ -1,0 +1,54 @@
+-- `step::begin_save` meets its contract.
+-- Assumes nothing.
+use mathlib.Core.Path.{sym, _∙_}
+use Rattle.step.proofs.Stepping.{begins, passes, fits-same}
+use borrow.Author.Needs.{needs}
+use Rattle.step.proofs.begin_save.Statement.{statement}
+use Rattle.step.proofs.begin_save.Tie as tie
+
+cell-count-requires : tie.Need-cell-count-requires
+cell-count-requires c κs = search needs
+
+stored-cells-requires : tie.Need-stored-cells-requires
+stored-cells-requires c κs = search needs
+
+cast-fits : tie.Need-cast-fits
+cast-fits c = search needs
+
+fits-requires : tie.Need-fits-requires
+fits-requires c κs = search needs
+
+returns : tie.Need-returns
+returns c v ws xs =
+    let cells = c .before .before .before in
+    let s = cells .before .before .before .before in
+    begins _ ws v _ xs _ _ (s .pre .1)
+    (sym (fits-same _ _ xs _ _ (cells .before .cell-count .ensures .0) (cells .stored-cells .ensures) (c .before .fits2 .ensures)) ∙ c .if1 .taken)
+
+cast-after : tie.Need-cast-after
+cast-after c = search needs
+
+after-requires : tie.Need-after-requires
+after-requires c κs = search needs
+
+returns-2 : tie.Need-returns-2
+returns-2 c v ws xs =
+    let at-if1 = c .before .before in
+    let cells = at-if1 .before .before .before in
+    let s = cells .before .before .before .before in
+    passes _ ws v _ xs _ _ (s .pre .1) (s .pre .2)
+    (sym (fits-same _ _ xs _ _ (cells .before .cell-count .ensures .0) (cells .stored-cells .ensures) (at-if1 .before .fits2 .ensures)) ∙ at-if1 .if1 .left)
+    (c .after .ensures)
+
+pub begin-save-spec : {M : Type 1} → statement M
+begin-save-spec =
+    tie.close
+    (tie.spec
+    cell-count-requires
+    stored-cells-requires
+    cast-fits
+    fits-requires
+    returns
+    cast-after
+    after-requires
+    returns-2)

@@ -1,0 +1,104 @@
+-- `step::sound::saving_sound` meets its contract: each test decides, or leaves it to the next.
+-- Assumes nothing.
+use native.Mathlib.Omega.{arith}
+use Rattle.step.specs.State.{machineOf}
+use Rattle.step.proofs.Soundness.{size-most, size-is, saving-none, saving-elsewhere, saving-erasing, saving-over, saving-fits}
+use borrow.Author.Needs.{needs}
+use Rattle.step.proofs.sound.saving_sound.Statement.{statement}
+use Rattle.step.proofs.sound.saving_sound.Tie as tie
+
+returns : tie.Need-returns
+returns c l e =
+    let a = c .before .before .before .args in
+    let m = machineOf (a .r) (a .cells .now) (a .marks .now) l in
+    saving-none (a .p .now) m (c .if1 .taken)
+
+cast-if2 : tie.Need-cast-if2
+cast-if2 c = search needs
+
+shared-slice-read-if2 : tie.Need-shared-slice-read-if2
+shared-slice-read-if2 c = search needs
+
+returns-2 : tie.Need-returns-2
+returns-2 c l e =
+    let a = c .before .before .before .before .before .before .args in
+    let m = machineOf (a .r) (a .cells .now) (a .marks .now) l in
+    saving-elsewhere (a .p .now) m (c .before .before .before .if1 .left) (c .if2 .taken)
+
+returns-3 : tie.Need-returns-3
+returns-3 c l e =
+    let a = c .before .before .before .before .before .before .before .before .args in
+    let m = machineOf (a .r) (a .cells .now) (a .marks .now) l in
+    saving-erasing (a .p .now) m (c .before .before .before .before .before .if1 .left) (c .before .before .if2 .left) (c .if3 .taken)
+
+shared-slice-read-stored-cells : tie.Need-shared-slice-read-stored-cells
+shared-slice-read-stored-cells c = search needs
+
+cast-stored-cells : tie.Need-cast-stored-cells
+cast-stored-cells c = omega (arith, c .shared-slice-known3 .given 0)
+
+add-stored-cells : tie.Need-add-stored-cells
+add-stored-cells c = omega (arith, c .shared-slice-known3 .given 0)
+
+stored-cells-requires : tie.Need-stored-cells-requires
+stored-cells-requires c κs = search needs
+
+size-requires : tie.Need-size-requires
+size-requires c κs = search needs
+
+cast-stored : tie.Need-cast-stored
+cast-stored c = search needs
+
+sub-stored : tie.Need-sub-stored
+sub-stored c = search needs
+
+returns-4 : tie.Need-returns-4
+returns-4 c l e =
+    let k3 = c .before .before .before .before .before in
+    let k2 = k3 .before .before in
+    let k1 = k2 .before .before .before in
+    let a = k1 .before .before .before .args in
+    let m = machineOf (a .r) (a .cells .now) (a .marks .now) l in
+    saving-over (a .p .now) m (k1 .if1 .left) (k2 .if2 .left) (k3 .if3 .left)
+    (size-is (a .p .now) m (c .before .before .before .stored-cells .ensures) (c .before .before .size .ensures)) (c .if4 .taken)
+
+cast-result : tie.Need-cast-result
+cast-result c = search needs
+
+sub-result : tie.Need-sub-result
+sub-result c = search needs
+
+add-result : tie.Need-add-result
+add-result c = omega (arith, size-most _ (c .before .before .before .size .ensures))
+
+returns-5 : tie.Need-returns-5
+returns-5 c l e =
+    let k3 = c .before .before .before .before .before .before in
+    let k2 = k3 .before .before in
+    let k1 = k2 .before .before .before in
+    let a = k1 .before .before .before .args in
+    let m = machineOf (a .r) (a .cells .now) (a .marks .now) l in
+    saving-fits (a .p .now) m (k1 .if1 .left) (k2 .if2 .left) (k3 .if3 .left)
+    (size-is (a .p .now) m (c .before .before .before .before .stored-cells .ensures) (c .before .before .before .size .ensures)) (c .before .if4 .left) e
+
+pub saving-sound-spec : {M : Type 1} → statement M
+saving-sound-spec =
+    tie.close
+    (tie.spec
+    returns
+    cast-if2
+    shared-slice-read-if2
+    returns-2
+    returns-3
+    shared-slice-read-stored-cells
+    cast-stored-cells
+    add-stored-cells
+    stored-cells-requires
+    size-requires
+    cast-stored
+    sub-stored
+    returns-4
+    cast-result
+    sub-result
+    add-result
+    returns-5)
