@@ -17,7 +17,7 @@ use Rattle.program.proofs.Tests.{bool-cases, clash, or-cases, or-none}
 use Rattle.graph.specs.Tables.{startOf, Offsets}
 use Rattle.analysis.specs.Paths.{DE, RO, LiveSave, unsaved, live-at, Written}
 use Rattle.analysis.specs.Search.{Known, Found, offsetAt, savesAt, saves, deadAll, keptAll}
-use Rattle.analysis.proofs.Laws.{access-lt}
+use Rattle.analysis.proofs.Access.{access-lt}
 
 -- one of the first n places of the list
 pub record Some (P : ℕ → Type 0) (n : ℕ) : Type 0 where

@@ -3,37 +3,23 @@
 -- Assumes nothing.
 use mathlib.Core.Path.{_≡_}
 use mathlib.Core.List.{List}
-use mathlib.Core.Bool.{true, cond}
+use mathlib.Core.Bool.{true}
 use Prim.Native.Nat.{ℕ, _+_, _*_, _<_}
 use native.Mathlib.Omega.{arith}
-use lib.Dec.{eqb}
-use borrow.Author.Tests.{eqb-false}
 use Rattle.cellset.specs.Bits.{member}
 use Rattle.instruction.specs.Bytes.{byte, cellsOf, instructionAt}
 use Rattle.instruction.specs.Table.{mayDef, mustDef}
 use Rattle.instruction.specs.declared.Instruction.{Instruction}
 use Rattle.program.specs.Places.{isExclude, excludeNumber}
-use Rattle.program.proofs.Tests.{bool-cases}
 use Rattle.program.proofs.CellLaws.{must-may}
-use Rattle.analysis.specs.Paths.{Follows, Live, Region, first, onward}
+use Rattle.analysis.specs.Paths.{Live, Region}
 use Rattle.analysis.specs.Analyse.{ExcludeSets}
 
 -- ---- where a run is
 
--- the last EXCLUDE executed, 0 for none, once the instruction at o is; e before that
-abbrev pub lastAfter : List ℕ → ℕ → ℕ → ℕ
-lastAfter p e o = cond (eqb (byte p o) 0x0D) o e
-
 -- where an EXCLUDE was executed, the run is in the region of the last one
 abbrev pub Inside : List ℕ → ℕ → ℕ → Type 0
 Inside p e o = ¬ (e ≡ 0) → Region p e o
-
--- and every instruction keeps it there
-pub region-next : (p : List ℕ) (e o q : ℕ) → Inside p e o → Follows p o q → Inside p (lastAfter p e o) q
-region-next p e o q h f =
-    bool-cases (eqb (byte p o) 0x0D)
-    (λ t. rw t λ _. first f)
-    (λ t. rw t λ n. onward (h n) (eqb-false _ _ t) f)
 
 -- ---- what a bit of the sets promises there
 

@@ -1,7 +1,7 @@
 // The analysis: which cells are dead before each instruction, and the sets DE and RO of each EXCLUDE,
 // for every byte string and buffers of any length. `analyse` is equated with paths through the program
 // by `Analyses` of specs/Analyse.antt; the paths are defined in specs/Paths.antt. Crates above take
-// what dead cells and regions are good for from proofs/Laws.antt and Safety.antt; that the contract leaves
+// what dead cells and regions are good for from proofs/Safety.antt; that the contract leaves
 // one content of each buffer is proofs/Fixed.antt.
 mod region;
 

@@ -78,10 +78,6 @@ bit-not (suc w) (suc k) a h l =
 pub bit-less : (w k a b : ℕ) → b < 2 ^ w → k < w → bit (bitAnd a ((2 ^ w - 1) - b)) k ≡ bit a k - bit b k
 bit-less w k a b h l = omega (arith, bit-and a ((2 ^ w - 1) - b) k, bit-not w k b h l, bit-lt a k, bit-lt b k)
 
--- a word that `&` leaves as it is lies within the other
-pub bit-kept : (a b k : ℕ) → bitAnd a b ≡ a → bit a k ≤ bit b k
-bit-kept a b k e = omega (arith, bit-and a b k, ap (λ (x : ℕ). bit x k) e)
-
 -- the word 0 has no bit
 pub bit-of-zero : (k : ℕ) → bit 0 k ≡ 0
 unfolding bit
@@ -107,10 +103,6 @@ bit-ext (suc w) a b ha hb e =
     let half : a / 2 ≡ b / 2 = bit-ext w (a / 2) (b / 2) (half-lt (2 ^ w) a ha′) (half-lt (2 ^ w) b hb′) halves in
     let odd : a % 2 ≡ b % 2 = sym (bit-zero a) ∙ e 0 (omega arith) ∙ bit-zero b in
     omega arith
-
--- a cell is itself
-pub is-same : (a : ℕ) → is a a ≡ 1
-is-same a = rw (eq-eqb a a refl)
 
 -- and no other
 pub is-other : (a c : ℕ) → (a ≡ c → ⊥) → is a c ≡ 0

@@ -104,10 +104,6 @@ store-above ws at s k e h = sets-other ws at s k (λ j l e′. omega arith)
 pub member-below : (ws : List ℕ) (at : ℕ) (s : List ℕ) (at′ c : ℕ) → at′ + 4 ≤ at → c < 256 → member (sets ws at s) at′ c ≡ member ws at′ c
 member-below ws at s at′ c h l = ap (λ (x : ℕ). bit x (c % 64)) (store-below ws at s (at′ + c / 64) (omega arith))
 
--- and so does one behind it
-pub member-above : (ws : List ℕ) (at : ℕ) (s : List ℕ) (at′ c : ℕ) → length s ≡ 4 → at + 4 ≤ at′ → member (sets ws at s) at′ c ≡ member ws at′ c
-member-above ws at s at′ c e h = ap (λ (x : ℕ). bit x (c % 64)) (store-above ws at s (at′ + c / 64) e (omega arith))
-
 -- to store what was loaded changes nothing
 pub store-load : (ws : List ℕ) (at : ℕ) → at + 4 ≤ length ws → sets ws at (take 4 (drop at ws)) ≡ ws
 store-load ws at h =

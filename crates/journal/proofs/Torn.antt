@@ -1,7 +1,7 @@
--- A torn checkpoint, cut short of its image, is never taken for whole, however many FF bytes follow it (`never-whole`), and without its trailing FF bytes it
--- is still a beginning (`trim-part`). Only unique decoding is used, and that an image ends in 5A.
+-- A torn checkpoint, cut short of its image, is never taken for whole, however many FF bytes follow it (`never-whole`), and a shorter part of one is a part
+-- too (`part-less`). Only unique decoding is used, and that an image ends in 5A.
 -- Assumes nothing.
-use mathlib.Core.Path.{_≡_, refl, sym, _∙_, ap, ap₂, subst}
+use mathlib.Core.Path.{_≡_, refl, sym, _∙_, ap, ap₂}
 use mathlib.Core.List.{List, [], _∷_, _++_, append-assoc, append-nil, head-eq-of-cons-eq, tail-eq-of-cons-eq, cons-ne-nil, concat-ne-nil}
 use mathlib.Core.Logic.{_⊎_, ⊎-elim}
 use Prim.Native.Nat.{ℕ, zero, suc, _+_, _<_, _≤_}
@@ -14,24 +14,13 @@ use Rattle.cellset.proofs.Bits.{le-or-lt}
 use Rattle.program.proofs.Tests.{bool-cases}
 use Rattle.journal.specs.declared.Commit.{Commit}
 use Rattle.journal.specs.Format.{Checkpoint, image}
-use Rattle.journal.specs.Reading.{Facts, Sound, Begins, Whole}
+use Rattle.journal.specs.Reading.{Facts, Begins, Whole}
 use Rattle.journal.proofs.Decoding.{unique, image-end, image-some}
 pub use Rattle.journal.specs.Shape.{Part, Cut}
 
 -- a part is a beginning, and a beginning that is not whole is a part
 pub part-begins : {F : Facts} {b : Commit} {q : List ℕ} → Part F b q → Begins F b q
 part-begins p = record { save = p .save; sound = p .sound; rest = p .more; bytes = p .bytes }
-
-pub begins-part : {F : Facts} {b : Commit} {q : List ℕ} → Begins F b q → ¬ Whole F b q → Part F b q
-begins-part {F} {b} {q} g w = go (g .rest) (g .bytes)
-  where
-    go : (l : List ℕ) → image (g .save) ≡ q ++ l → Part F b q
-    go [] e = absurd (w (record { save = g .save; sound = g .sound; rest = []; bytes = sym (append-nil q) ∙ sym e ∙ sym (append-nil (image (g .save))) }))
-    go (x ∷ l) e = record { save = g .save; sound = g .sound; more = x ∷ l; bytes = e; short = omega arith }
-
--- nothing of a sound checkpoint is a part of it
-pub part-first : {F : Facts} {b : Commit} (s : Checkpoint) → Sound F b s → Part F b []
-part-first s h = record { save = s; sound = h; more = image s; bytes = refl; short = image-some s }
 
 -- what is left of a part is one
 pub part-less : {F : Facts} {b : Commit} (q u : List ℕ) → Part F b (q ++ u) → Part F b q
@@ -133,7 +122,3 @@ trim (x ∷ q) = go (trim q .kept) (trim q .cut) (trim q .bytes) (trim q .trimme
         (λ t. record { kept = []; cut = suc n; bytes = ap₂ {A = ℕ} (λ i l. i ∷ l) (eqb-true _ _ t) e; trimmed = trimmed-nil })
         (λ t. record { kept = x ∷ []; cut = n; bytes = ap (λ (l : List ℕ). x ∷ l) e; trimmed = trimmed-snoc [] x (eqb-false _ _ t) })
     go (y ∷ k) n e h = record { kept = x ∷ y ∷ k; cut = n; bytes = ap (λ (l : List ℕ). x ∷ l) e; trimmed = trimmed-cons x y k h }
-
--- a part without them is a part still
-pub trim-part : {F : Facts} {b : Commit} (q : List ℕ) → Part F b q → Part F b (trim q .kept)
-trim-part {F} {b} q p = part-less (trim q .kept) (replicate (trim q .cut) 0xFF) (subst (λ (l : List ℕ). Part F b l) (trim q .bytes) p)

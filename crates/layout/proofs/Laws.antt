@@ -10,11 +10,10 @@ use lib.IntN.{ℤ}
 use lib.ListN.{length, getD, set, take, drop, length-append, length-map}
 use lib.Seq.{sets, take-all, take-at, take-add, drop-at}
 use Rattle.word.specs.Word.{val, bitsOf}
-use Rattle.word.proofs.Bytes.{load-lt}
 use Rattle.step.specs.declared.Regs.{Regs}
 use Rattle.layout.specs.Numbers.{numbersFrom, bytesOfAll, signedFrom, signedBytes}
 use Rattle.layout.specs.Layout.{regsIn, cellsIn, marksIn, regsList, stateBytes}
-use Rattle.layout.proofs.Numbering.{numbers-length, numbers-split, numbers-lt, all-length, all-append, all-lt, below-append}
+use Rattle.layout.proofs.Numbering.{numbers-length, numbers-split, all-length, all-append}
 use Rattle.layout.proofs.Numbering.{numbers-back, numbers-bytes, signed-numbers, signed-all}
 
 -- ---- stores
@@ -159,49 +158,7 @@ module _ (r : Regs) (cells marks : List ℕ) (n : length cells ≡ 256) (m : len
       → (regsIn (stateBytes r cells marks) ≡ r) × (cellsIn (stateBytes r cells marks) ≡ cells) × (marksIn (stateBytes r cells marks) ≡ marks)
   state-back f g h = (ap regsOf (regs-list (stateBytes r cells marks) ∙ regs-back h), cells-back f, marks-back g)
 
--- the bytes of a state are bytes
-pub state-bytes-lt : (r : Regs) (cells marks : List ℕ) (k : ℕ) → getD (stateBytes r cells marks) k 0 < 256
-unfolding stateBytes
-state-bytes-lt r cells marks =
-    below-append 256 (bytesOfAll 4 cells ++ bytesOfAll 1 marks) (bytesOfAll 4 (regsList r))
-    (below-append 256 (bytesOfAll 4 cells) (bytesOfAll 1 marks) (all-lt 4 cells) (all-lt 1 marks))
-    (all-lt 4 (regsList r))
-
--- bytes hold 256 cells
-pub cells-in-length : (b : List ℕ) → length (cellsIn b) ≡ 256
-unfolding cellsIn
-cells-in-length b = numbers-length 4 256 b 0
-
--- and 256 marks
-pub marks-in-length : (b : List ℕ) → length (marksIn b) ≡ 256
-unfolding marksIn
-marks-in-length b = numbers-length 1 256 b 1024
-
 module _ (b : List ℕ) (h : (k : ℕ) → getD b k 0 < 256) where
-  -- the registers that bytes hold fit 32 bits
-  pub regs-in-fit : RegsFit (regsIn b)
-  unfolding regsIn
-  regs-in-fit = record {
-    pc = load-lt 4 b 1280 h;
-    exclude = load-lt 4 b 1284 h;
-    readings = load-lt 4 b 1288 h;
-    outputs = load-lt 4 b 1292 h;
-    stop = load-lt 4 b 1296 h;
-    write = load-lt 4 b 1300 h;
-    erase = load-lt 4 b 1304 h;
-    saving = load-lt 4 b 1308 h;
-  }
-
-  -- so do the cells
-  pub cells-in-lt : (c : ℕ) → getD (cellsIn b) c 0 < 2 ^ 32
-  unfolding cellsIn
-  cells-in-lt = numbers-lt 4 256 b 0 h
-
-  -- a mark fits a byte
-  pub marks-in-lt : (c : ℕ) → getD (marksIn b) c 0 < 256
-  unfolding marksIn
-  marks-in-lt = numbers-lt 1 256 b 1024 h
-
   -- storing the state that was loaded changes nothing
   pub state-again : length b ≡ 1312 → stateBytes (regsIn b) (cellsIn b) (marksIn b) ≡ b
   unfolding stateBytes cellsIn marksIn

@@ -1,9 +1,9 @@
--- Numbers that stand one behind the other in bytes: how many they are, where they part, how large they are, and that the bytes of numbers give them back.
+-- Numbers that stand one behind the other in bytes: how many they are, where they part, and that the bytes of numbers give them back.
 -- Assumes nothing.
 use mathlib.Core.Path.{_≡_, refl, sym, ap, _∙_}
 use mathlib.Core.List.{List, [], _∷_, _++_, map, append-assoc}
 use Prim.Native.Nat.{ℕ, zero, suc, _+_, _*_, _^_, _<_, _≤_, _/_, _%_}
-use native.Mathlib.Nat.{zero-add, add-zero, suc-add, mul-zero, mul-suc, one-le-pow}
+use native.Mathlib.Nat.{zero-add, add-zero, suc-add, mul-zero, mul-suc}
 use native.Mathlib.Numerals.{add-one}
 use native.Mathlib.Omega.{arith}
 use lib.IntN.{ℤ}
@@ -11,7 +11,7 @@ use lib.ListN.{length, getD, take, drop, length-append}
 use lib.Seq.{take-at, take-add, drop-at, drop-cons, drop-drop}
 use Rattle.word.specs.Word.{val, bitsOf}
 use Rattle.word.specs.Bytes.{bytesOf, numberOf, loadOf}
-use Rattle.word.proofs.Bytes.{length-bytes, number-bytes, load-lt, load-number}
+use Rattle.word.proofs.Bytes.{length-bytes, number-bytes, load-number}
 use Rattle.layout.specs.Numbers.{numbersFrom, bytesOfAll, signedFrom, signedBytes}
 
 -- ---- numbers that are loaded
@@ -29,13 +29,6 @@ numbers-split w zero k b at = rw (zero-add k, mul-zero w, add-zero at)
 numbers-split w (suc j) k b at =
     let e : at + w * suc j ≡ at + w + w * j = omega (arith, mul-suc w j) in
     rw (suc-add j k, e) (ap (λ (r : List ℕ). loadOf w b at ∷ r) (numbers-split w j k b (at + w)))
-
--- each is as small as its bytes allow
-pub numbers-lt : (w n : ℕ) (b : List ℕ) (at : ℕ) → ((k : ℕ) → getD b k 0 < 256) → (c : ℕ) → getD (numbersFrom w n b at) c 0 < 256 ^ w
-unfolding numbersFrom
-numbers-lt w zero b at h c = one-le-pow w 256 (omega arith)
-numbers-lt w (suc n) b at h zero = load-lt w b at h
-numbers-lt w (suc n) b at h (suc c) = numbers-lt w n b (at + w) h c
 
 -- ---- bytes that are stored
 
@@ -56,19 +49,6 @@ pub below-append : (m : ℕ) (xs ys : List ℕ) → ((k : ℕ) → getD xs k 0 <
 below-append m [] ys f g k = g k
 below-append m (x ∷ xs) ys f g zero = f zero
 below-append m (x ∷ xs) ys f g (suc k) = below-append m xs ys (λ i. f (suc i)) g k
-
--- the bytes of a number are bytes
-bytes-lt : (n v k : ℕ) → getD (bytesOf n v) k 0 < 256
-unfolding bytesOf
-bytes-lt zero v k = omega arith
-bytes-lt (suc n) v zero = omega arith
-bytes-lt (suc n) v (suc k) = bytes-lt n (v / 256) k
-
--- and those of numbers
-pub all-lt : (w : ℕ) (vs : List ℕ) (k : ℕ) → getD (bytesOfAll w vs) k 0 < 256
-unfolding bytesOfAll
-all-lt w [] k = omega arith
-all-lt w (v ∷ vs) k = below-append 256 (bytesOf w v) (bytesOfAll w vs) (bytes-lt w v) (all-lt w vs) k
 
 -- ---- bytes that give numbers back
 

@@ -335,10 +335,6 @@ module _ (e : Env) (ρ : List ℤ) (room a b : ℕ) (c : Call) where
       let z : a + b - (runOf e ρ room a c .call .steps - c .steps) ≡ b = omega (arith, s) in
       rw z at (continued e ρ ρ room room (λ c. Unit) (λ left c g k. (g, refl, tt)) b a c tt)
 
-  -- any other answer is that of every larger budget
-  pub budgets-else : ¬ (runOf e ρ room a c .ended ≡ Spent) → runOf e ρ room (a + b) c ≡ runOf e ρ room a c
-  budgets-else h = unchanged e ρ ρ room room (λ c. Unit) (λ left c g k. (g, refl, tt)) b a c tt (λ s. absurd (h s)) (λ r. refl) (λ w. refl)
-
 -- ---- readings in stretches
 
 module _ (e : Env) (ρ : List ℤ) (k room : ℕ) (most : k ≤ length ρ) where
@@ -364,18 +360,6 @@ module _ (e : Env) (ρ : List ℤ) (k room : ℕ) (most : k ≤ length ρ) where
         omega (arith, taken-none p (c .machine) v f),
       ))
 
-  module _ (a : ℕ) (c : Call) (taken : c .taken ≤ k) where
-    -- the run over the first k readings, continued with all on what it left, is the run over all
-    pub stretch-readings : runOf e ρ room a c
-        ≡ runOf e ρ room (a - (runOf e (take k ρ) room a c .call .steps - c .steps)) (runOf e (take k ρ) room a c .call)
-    stretch-readings = let z : a + 0 ≡ a = omega arith in rw z at (continued e (take k ρ) ρ room room (λ c. c .taken ≤ k) first-readings 0 a c taken)
-
-    -- and if it answers anything else than that no reading is left, it is that run itself
-    pub stretch-readings-else : ¬ (runOf e (take k ρ) room a c .ended ≡ NoReading) → runOf e ρ room a c ≡ runOf e (take k ρ) room a c
-    stretch-readings-else h =
-        let z : a + 0 ≡ a = omega arith in
-        rw z at (unchanged e (take k ρ) ρ room room (λ c. c .taken ≤ k) first-readings 0 a c taken (λ s. refl) (λ r. absurd (h r)) (λ w. refl))
-
 -- ---- output places in stretches
 
 module _ (e : Env) (ρ : List ℤ) (room₁ room₂ : ℕ) (most : room₁ ≤ room₂) where
@@ -398,17 +382,6 @@ module _ (e : Env) (ρ : List ℤ) (room₁ room₂ : ℕ) (most : room₁ ≤ r
         refl,
         rw (given-none p (c .machine) v f, append-nil (c .given)) l,
       ))
-
-  module _ (a : ℕ) (c : Call) (given : length (c .given) ≤ room₁) where
-    -- the run with the fewer places, continued with the more on what it left, is the run with the more
-    pub stretch-room : runOf e ρ room₂ a c ≡ runOf e ρ room₂ (a - (runOf e ρ room₁ a c .call .steps - c .steps)) (runOf e ρ room₁ a c .call)
-    stretch-room = let z : a + 0 ≡ a = omega arith in rw z at (continued e ρ ρ room₁ room₂ (λ c. length (c .given) ≤ room₁) first-places 0 a c given)
-
-    -- and if it answers anything else than that the buffer is full, it is that run itself
-    pub stretch-room-else : ¬ (runOf e ρ room₁ a c .ended ≡ BufferFull) → runOf e ρ room₂ a c ≡ runOf e ρ room₁ a c
-    stretch-room-else h =
-        let z : a + 0 ≡ a = omega arith in
-        rw z at (unchanged e ρ ρ room₁ room₂ (λ c. length (c .given) ≤ room₁) first-places 0 a c given (λ s. refl) (λ r. refl) (λ w. absurd (h w)))
 
 -- ---- readings and output places in stretches
 

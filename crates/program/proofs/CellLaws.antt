@@ -56,17 +56,9 @@ refs-exist n i c h k =
     access-below n (rowOf i .refs) (rowOf i .refTable) c (below-append n (rowOf i .defs) (rowOf i .refs) h .1)
     (and-both (fitsIn n (rowOf i .refTable)) (fitsIn n (rowOf i .defTable)) k .0)
 
-defs-exist : (n : ℕ) (i : Instruction) (c : ℕ) → allBelow n (named i) ≡ true → tableFits n i ≡ true → mayDef i c ≡ 1 → c < n
-defs-exist n i c h k =
-    access-below n (rowOf i .defs) (rowOf i .defTable) c (below-append n (rowOf i .defs) (rowOf i .refs) h .0)
-    (and-both (fitsIn n (rowOf i .refTable)) (fitsIn n (rowOf i .defTable)) k .1)
-
 module _ (p : List ℕ) {m n e : ℕ} (a : Accepted p m n e) (o : ℕ) (start : isStart p o ≡ true) where
   pub start-refs : (c : ℕ) → mayRef (instructionAt p o) c ≡ 1 → c < cellsOf p
   start-refs c = let s = start-cells p a o start in refs-exist (cellsOf p) (instructionAt p o) c (s .0) (s .1)
-
-  pub start-defs : (c : ℕ) → mayDef (instructionAt p o) c ≡ 1 → c < cellsOf p
-  start-defs c = let s = start-cells p a o start in defs-exist (cellsOf p) (instructionAt p o) c (s .0) (s .1)
 
 -- what must be written may be written
 pub must-may : (i : Instruction) (c : ℕ) → mustDef i c ≤ mayDef i c

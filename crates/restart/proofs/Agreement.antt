@@ -26,22 +26,6 @@ use Rattle.restart.specs.Claim.{Agrees}
 use Rattle.restart.proofs.Invariant.{Agree}
 use Rattle.restart.proofs.Effects.{Possible, halts, passes, jumps, wrote, took, gave, marks, stores, effect-same, possible}
 
--- a frame agrees with itself
-pub agree-refl : (p : List ℕ) (f : Frame) → Agree p f f
-agree-refl p f = record { size = refl; pc = refl; readings = refl; outputs = refl; stop = refl; cells = λ c l. refl }
-
--- two that agree with a third agree
-pub agree-trans : {p : List ℕ} {f g h : Frame} → Agree p f g → Agree p g h → Agree p f h
-agree-trans {p} a b =
-    record {
-      size = a .size ∙ b .size;
-      pc = a .pc ∙ b .pc;
-      readings = a .readings ∙ b .readings;
-      outputs = a .outputs ∙ b .outputs;
-      stop = a .stop ∙ b .stop;
-      cells = λ c l. a .cells c l ∙ b .cells c (subst (Live p c) (a .pc) l);
-    }
-
 -- a cell that is not dead has one value
 pub agree-undead : {p : List ℕ} {f g : Frame} → Agree p f g → Agrees p f g
 agree-undead {p} {f} {g} a =

@@ -24,7 +24,7 @@ use Rattle.program.proofs.Accepted.{accepted, start-cells}
 use Rattle.program.proofs.CellLaws.{start-refs}
 use Rattle.analysis.specs.Paths.{Follows, Live, reads, later}
 use Rattle.analysis.proofs.Certificates.{follows-start}
-use Rattle.analysis.proofs.Laws.{access-lt}
+use Rattle.analysis.proofs.Access.{access-lt}
 use Rattle.step.specs.Step.{isSaves}
 use Rattle.step.specs.Ready.{Legal}
 use Rattle.machine.proofs.Laws.{push-effect}

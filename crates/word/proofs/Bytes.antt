@@ -16,11 +16,6 @@ use Rattle.word.specs.Bytes.{byteOf, bytesOf, numberOf, loadOf, storeOf}
 
 -- ---- a number and its bytes
 
--- a byte is below 256
-pub byte-lt : (v k : ℕ) → byteOf v k < 256
-unfolding byteOf
-byte-lt v k = omega arith
-
 -- n bytes are n bytes
 pub length-bytes : (n v : ℕ) → length (bytesOf n v) ≡ n
 unfolding bytesOf
@@ -158,9 +153,6 @@ load-store n s at v h f =
 -- a load of bytes that all stand below what is stored, or all above, is as before
 pub load-store-below : (m n : ℕ) (s : List ℕ) (a at v : ℕ) → a + m ≤ at → loadOf m (storeOf n s at v) a ≡ loadOf m s a
 load-store-below m n s a at v h = load-same m (storeOf n s at v) s a (λ j l k. store-other n s at v j (inl (omega arith)))
-
-pub load-store-above : (m n : ℕ) (s : List ℕ) (a at v : ℕ) → at + n ≤ a → loadOf m (storeOf n s at v) a ≡ loadOf m s a
-load-store-above m n s a at v h = load-same m (storeOf n s at v) s a (λ j l k. store-other n s at v j (inr (omega arith)))
 
 -- what was loaded, stored again, changes nothing
 pub store-load : (n : ℕ) (s : List ℕ) (at : ℕ) → ((i : ℕ) → getD s i 0 < 256) → storeOf n s at (loadOf n s at) ≡ s

@@ -4,8 +4,6 @@ use borrow.Author.Needs.{needs}
 use Rattle.machine.proofs.Turns.{due-erase, due-save, due-byte}
 use Rattle.machine.proofs.run.due_opcode.Statement.{statement}
 use Rattle.machine.proofs.run.due_opcode.Tie as tie
-use Rattle.machine.proofs.run.due_opcode.Reads as reads
-use Rattle.machine.proofs.run.due_opcode.Lts as lts
 
 returns : tie.Need-returns
 returns c = due-erase _ _ (c .if1 .taken)

@@ -5,9 +5,6 @@ use mathlib.Core.Path.{ap}
 use Rattle.execution.specs.Effects.{cellsIn}
 use Rattle.machine.proofs.run.emitted_cell.Statement.{statement}
 use Rattle.machine.proofs.run.emitted_cell.Tie as tie
-use Rattle.machine.proofs.run.emitted_cell.Reads as reads
-use Rattle.machine.proofs.run.emitted_cell.Lts as lts
-use Rattle.instruction.proofs.byte_at.Reads as byte-at-reads
 
 add-byte-at : tie.Need-add-byte-at
 add-byte-at c = search needs

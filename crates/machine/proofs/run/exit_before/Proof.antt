@@ -8,9 +8,6 @@ use Rattle.machine.specs.Standing.{standing}
 use Rattle.machine.proofs.Turns.{exit-stopped, exit-spent, exit-starved, exit-full, open-at, open-none}
 use Rattle.machine.proofs.run.exit_before.Statement.{statement}
 use Rattle.machine.proofs.run.exit_before.Tie as tie
-use Rattle.machine.proofs.run.exit_before.Reads as reads
-use Rattle.machine.proofs.run.exit_before.Lts as lts
-use Rattle.machine.proofs.run.due_opcode.Reads as due-opcode-reads
 
 -- no READ is due with no reading left
 fed : (c : tie.Joined3)

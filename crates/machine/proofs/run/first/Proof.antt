@@ -4,8 +4,6 @@ use borrow.Author.Needs.{needs}
 use Rattle.machine.proofs.Turns.{first-none}
 use Rattle.machine.proofs.run.first.Statement.{statement}
 use Rattle.machine.proofs.run.first.Tie as tie
-use Rattle.machine.proofs.run.first.Reads as reads
-use Rattle.machine.proofs.run.first.Lts as lts
 
 returns : tie.Need-returns
 returns c = first-none (c .before .args .readings .now) (c .if1 .taken)

@@ -4,8 +4,6 @@ use borrow.Author.Needs.{needs}
 use Rattle.machine.proofs.Turns.{put-one}
 use Rattle.machine.proofs.run.put_output.Statement.{statement}
 use Rattle.machine.proofs.run.put_output.Tie as tie
-use Rattle.machine.proofs.run.put_output.Reads as reads
-use Rattle.machine.proofs.run.put_output.Lts as lts
 
 mul-v : tie.Need-mul-v
 mul-v c = search needs

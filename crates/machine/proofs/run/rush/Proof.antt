@@ -6,11 +6,6 @@ use borrow.Author.Needs.{needs}
 use Rattle.machine.proofs.Running.{rest-is, rest-length, Lends, moved-fits, rush-is}
 use Rattle.machine.proofs.run.rush.Statement.{statement}
 use Rattle.machine.proofs.run.rush.Tie as tie
-use Rattle.machine.proofs.run.rush.Reads as reads
-use Rattle.machine.proofs.run.rush.Lts as lts
-use Rattle.machine.proofs.quiet.quiet.Reads as quiet-reads
-use Rattle.machine.proofs.run.most.Reads as most-reads
-use Rattle.machine.proofs.run.moved.Reads as moved-reads
 
 -- the function's beginning, seen from after the calls of `most`
 abbrev start : tie.After-most2 → tie.Start
