@@ -6,7 +6,7 @@ use mathlib.Core.List.{List, _++_}
 use native.Mathlib.Omega.{arith}
 use lib.Dec.{eqb, ltb}
 use lib.ListN.{length, getD}
-use borrow.Author.Tests.{eqb-true, eqb-false, ne-eqb}
+use borrow.Author.Tests.{eqb-true, eqb-false, eq-eqb, ne-eqb}
 use Rattle.program.specs.Check.{checkOf, numberOf}
 use Rattle.program.proofs.Tests.{bool-cases}
 use Rattle.journal.specs.declared.Scanned.{Scanned}
@@ -17,7 +17,8 @@ use Rattle.machine.specs.declared.Ended.{Ended}
 use Rattle.machine.specs.declared.Ended.the-variants as ended
 use Rattle.recovery.specs.Recover as recovery
 use Rattle.recovery.specs.Recover.{recoverOf, Recovers, refuses, reads}
-use Rattle.recovery.specs.declared.Recovered.the-variants.{Restored}
+use Rattle.recovery.specs.declared.Recovered.{Recovered}
+use Rattle.recovery.specs.declared.Recovered.the-variants.{Restored, Refused}
 use Rattle.layout.specs.Layout.{stateSize}
 use Rattle.pitskelo.specs.Runs.{oddState, RunLent, ranOn, runNumber, runDone, runRefused, runCallOf, RecoverCall}
 use Rattle.restart.specs.History.{Accepted}
@@ -50,6 +51,18 @@ outcome-restored e m r (refuses n h l k) z =
     absurd (omega arith)
 outcome-restored e m r (reads h a values s k) z = rw k (read-restored e a values m (rw k at z))
 
+-- a refusal's number tells it
+pub refused-number : (a : Recovered) (k : ℕ) → ¬ (k ≡ 0) → recovery.answerOf a .number ≡ k → a ≡ Refused k
+refused-number Restored k z h = absurd (z (sym h))
+refused-number (Refused n) k z h = ap Refused h
+
+-- of an accepted plan, a state of another length gives 9 or 10
+pub odd-number : (p ws : List ℕ) → numberOf (checkOf p) ≡ 0 → ¬ (oddState p ws ≡ 12)
+unfolding oddState
+odd-number p ws h e =
+    let n = eq-eqb (numberOf (checkOf p)) 0 h in
+    bool-cases (ltb (length ws / 8) 512) (λ c. let z = rw (n, c) at e in omega arith) (λ c. let z = rw (n, c) at e in omega arith)
+
 module _ {p ws chip state left : List ℕ} (x : RecoverCall p ws chip state left 0) where
   -- an accepted call was lent a state of the right length
   pub accepted-size : length state ≡ stateSize
@@ -79,6 +92,21 @@ run-done l z =
     bool-cases (eqb (runNumber l) 0)
     (λ b. rw b)
     (λ b. absurd (eqb-false (runNumber l) 0 b (rw b at z)))
+
+-- what is accepted has the number 0
+pub accepted-number : (x : Ended) → Accepted x → answerOf x .number ≡ 0
+accepted-number (ended.Refused n) a = absurd a
+accepted-number (ended.Stopped k) a = refl
+accepted-number ended.Spent a = refl
+accepted-number ended.NoReading a = refl
+accepted-number ended.BufferFull a = refl
+
+-- and so has the call, with a state of the right length
+pub accepted-result : (l : RunLent) → length (l .state) ≡ stateSize → answerOf (ranOn l .ended) .number ≡ 0 → runCallOf l .result ≡ 0
+unfolding runCallOf runNumber
+accepted-result l s h =
+    let n : runNumber l ≡ 0 = rw (eq-eqb (length (l .state)) stateSize s) h in
+    rw (eq-eqb (runNumber l) 0 n)
 
 -- its numbers stand behind the kind of ending
 pub number-at : (x : Ended) → Accepted x → (l : List ℕ) (i : ℕ) → getD (answerOf x .values ++ l) (suc i) 0 ≡ getD l i 0

@@ -4,6 +4,9 @@ use Prim.Native.Nat.{ℕ, _+_}
 use mathlib.Core.Path.{_≡_, refl, sym, _∙_, ap, subst}
 use mathlib.Core.Bool.{Bool, true, false, cond}
 use mathlib.Core.List.{List, [], _∷_, _++_}
+use native.Mathlib.Omega.{arith}
+use borrow.Author.Tests.{eqb-true, eq-eqb}
+use lib.Dec.{eqb}
 use lib.IntN.{ℤ}
 use lib.ListN.{length, getD, take, replicate, length-replicate}
 use Rattle.step.specs.State.{envOf, Machine}
@@ -12,22 +15,26 @@ use Rattle.recovery.proofs.Laws.{journal-stays}
 use Rattle.layout.specs.Numbers.{signedOf}
 use Rattle.layout.specs.Layout.{stateSize, machineIn, bytesOfState}
 use Rattle.layout.proofs.Laws.{state-length}
-use Rattle.program.proofs.Tests.{clash}
+use Rattle.program.specs.Check.{numberOf}
+use Rattle.program.proofs.Tests.{bool-cases, clash}
+use Rattle.recovery.specs.Recover as recovery
+use Rattle.recovery.specs.declared.Recovered.{Recovered}
 use Rattle.restart.proofs.Invariant.{Inv}
 use Rattle.pitskelo.specs.Runs.{setsIn, RunLent, RunLeft, ranOn, runDone, runCallOf, RecoverCall}
 use Rattle.restart.specs.Reference.{numberedFrom, zeros}
 use Rattle.restart.specs.History as list
 use Rattle.restart.specs.History.{Tally, talliedOver, System, Request, outcomeOf, tallyAfter, History}
-use Rattle.restart.specs.Claim.{Plan, Safe, Erased}
+use Rattle.restart.specs.Claim.{Plan, Claim, Safe, Erased}
 use Rattle.machine.proofs.Accepting.{not-refused}
 use Rattle.restart.proofs.Upheld.{Upheld}
 use Rattle.restart.proofs.Theorem.{upheld, claim, erased-taken}
-use Rattle.restart_c.specs.Calls.{Board, systemOf, restored, ran, Lends, Calls, Found, Demand3}
+use Rattle.restart_c.specs.Calls.{Board, systemOf, restored, ran, Lends, Calls, Found, Answers, Demand3}
 use Rattle.restart_c.specs.Calls.{begins, refused-recovery, refused-run, recovers, crashes, runs, crashed-run}
 use Rattle.restart_c.proofs.FoundSets.{sets-safe}
 use Rattle.restart_c.proofs.Outputs.{Writes, call-writes}
 use Rattle.restart_c.proofs.Back.{machine-back}
-use Rattle.restart_c.proofs.Calling.{recovery-kept, accepted-size, accepted-restored, run-kept, run-done, number-at}
+use Rattle.restart_c.proofs.Calling.{recovery-kept, accepted-size, accepted-restored, refused-number, odd-number}
+use Rattle.restart_c.proofs.Calling.{run-kept, run-done, accepted-number, accepted-result, number-at}
 
 -- the board with such a state and chip
 abbrev holding : Board → (state chip : List ℕ) → Board
@@ -126,6 +133,12 @@ module _ (p : List ℕ) (plan : Plan p) (ws : List ℕ) (found : Found p ws) (ρ
         let e = ap (λ (o : RunLeft). systemOf (ran b l o)) (run-done l z ∙ ap (runDone l) same-outcome) in
         subst H (sym (e ∙ done-same (writes h g) (machine-back plan (made-inv h g)))) (made-run h g)
 
+    -- with the result 0
+    result : H (systemOf b) → b .good ≡ true → length (b .state) ≡ stateSize → runCallOf l .result ≡ 0
+    result h g size =
+        accepted-result l (ap length (x .state) ∙ size)
+        (ap (λ (o : Outcome). answerOf (o .ended) .number) same-outcome ∙ accepted-number (made .ended) (writes h g .accepted))
+
     ran-size : H (systemOf b) → b .good ≡ true → runCallOf l .result ≡ 0 → length (runCallOf l .state) ≡ stateSize
     ran-size h g z = ap (λ (o : RunLeft). length (o .state)) (run-done l z ∙ ap (runDone l) same-outcome) ∙ bytes-size (made-inv h g)
 
@@ -162,7 +175,30 @@ module _ (p : List ℕ) (plan : Plan p) (ws : List ℕ) (found : Found p ws) (ρ
   sized (runs c g l x z) _ = ran-size l x (history c) g z
   sized (crashed-run c g l x z state) e = clash false e refl
 
+  -- ---- what the entries answer
+
+  -- the claim of the system that the bytes hold
+  claims : {b : Board} → Calls p ws ρ n b → Claim p ρ zeros n 0 Words (systemOf b)
+  claims c = claim p ρ zeros plan n 0 (Erased n) Words (erased-taken p ρ n) safe (history c)
+
+  answers : {b : Board} → Calls p ws ρ n b → Answers p ws ρ n b
+  answers {b} c =
+      record {
+        size = sized c;
+        runs = λ g l x. result l x (history c) g (sized c g);
+        not-damaged =
+            λ state left result x e.
+            bool-cases (eqb (length state) stateSize)
+            (λ s. claims c .not-damaged (setsIn ws) refl (machineIn state (b .chip)) refl (x .outcome) (x .recovers (eqb-true _ _ s))
+            (refused-number (x .outcome .answer) 12 (λ z. omega arith) (sym (rw s at (x .number)) ∙ e)))
+            (λ s. odd-number p ws (ap numberOf (plan .legal .accepted)) (sym (rw s at (x .number)) ∙ e));
+        restores =
+            λ most state left result size x.
+            rw (eq-eqb (length state) stateSize size) at (x .number)
+            ∙ ap (λ (a : Recovered). recovery.answerOf a .number)
+            (claims c .taken-up most (setsIn ws) refl (machineIn state (b .chip)) refl (x .outcome) (x .recovers size));
+      }
+
 -- DEMAND 3
 pub demand-3 : Demand3
-demand-3 p plan ws found ρ n b c =
-    (claim p ρ zeros plan n 0 (Erased n) (λ w. w ≡ setsIn ws) (erased-taken p ρ n) (safe p plan ws found ρ n) (history p plan ws found ρ n c), sized p plan ws found ρ n c)
+demand-3 p plan ws found ρ n b c = (claims p plan ws found ρ n c, answers p plan ws found ρ n c)

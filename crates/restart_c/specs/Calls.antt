@@ -1,7 +1,7 @@
 -- Lists of C calls, over the bytes that are lent: document 01, "A list of recoveries, runs and cuts, refused calls of any content among them, begins on an erased
 -- chip with any state." What each call leaves is what its contract says (crate `pitskelo`).
 -- Assumes nothing.
-use Prim.Native.Nat.{ℕ, _+_}
+use Prim.Native.Nat.{ℕ, _+_, _≤_}
 use mathlib.Core.Path.{_≡_}
 use mathlib.Core.Bool.{Bool, true, false, cond}
 use mathlib.Core.List.{List, [], _++_}
@@ -112,8 +112,18 @@ pub record Found (p ws : List ℕ) : Type 0 where
   pub dead : List ℕ
   pub call : AnalyseCall p dead-lent lent dead ws 0
 
--- demand 3 of the C calls: for every list of calls, the claim of the system that the bytes hold; and a good state has its length, so that a run does not give 10 for that either
+-- what the entries answer, in their own numbers
+pub record Answers (p ws : List ℕ) (ρ : List ℤ) (n : ℕ) (b : Board) : Type 0 where
+  -- a good state has its length
+  pub size : b .good ≡ true → length (b .state) ≡ stateSize
+  -- "a run never gives 10 on a state that an accepted call left and no cut has since spoiled": it is never refused
+  pub runs : b .good ≡ true → (l : RunLent) → Lends p ws ρ n b l → runCallOf l .result ≡ 0
+  -- "recovery never gives 12", whatever state it is lent; one of the right length is restored, unless the chip is too long
+  pub not-damaged : (state left : List ℕ) (result : ℕ) → RecoverCall p ws (b .chip) state left result → ¬ (result ≡ 12)
+  pub restores : n ≤ 65536 → (state left : List ℕ) (result : ℕ) → length state ≡ stateSize → RecoverCall p ws (b .chip) state left result → result ≡ 0
+
+-- demand 3 of the C calls: for every list of calls, the claim of the system that the bytes hold, and what the entries answer
 abbrev pub Demand3 : Type 0
 Demand3 =
     (p : List ℕ) → Plan p → (ws : List ℕ) → Found p ws → (ρ : List ℤ) (n : ℕ) (b : Board) → Calls p ws ρ n b
-    → Claim p ρ zeros n 0 (λ w. w ≡ setsIn ws) (systemOf b) × (b .good ≡ true → length (b .state) ≡ stateSize)
+    → Claim p ρ zeros n 0 (λ w. w ≡ setsIn ws) (systemOf b) × Answers p ws ρ n b
