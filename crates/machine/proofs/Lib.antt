@@ -1,11 +1,3 @@
--- What the crates above cite: the laws of a run, and what an accepted call relies on; below, what the proofs of the functions use.
+-- What the three walks share. The functions' contracts are what other crates cite.
 -- Assumes nothing.
-pub mod Laws
-mod Starting
-mod Along
-pub mod Accepting
-mod Flowing
-mod Calls
-mod Turns
-mod Running
-mod Stretching
+mod Lending

@@ -8,12 +8,12 @@ use borrow.Author.Tests.{eq-eqb, ne-eqb}
 use lib.IntN.{ℤ}
 use lib.ListN.{length, getD, take}
 use lib.Seq.{sets}
-use Rattle.machine.specs.declared.Ended.{Ended}
+use Rattle.run.specs.declared.Ended.{Ended}
 use Rattle.step.specs.declared.Regs.{Regs}
 use Rattle.step.specs.State.{Env, envOf, Machine, machineOf}
 use Rattle.program.specs.Check.{checkOf, numberOf}
-use Rattle.machine.specs.Run.{Outcome, outcome, refusalOf, callOf, answerOf}
-use Rattle.machine.proofs.Accepting.{outputs-first}
+use Rattle.run.specs.Run.{Outcome, outcome, refusalOf, callOf, answerOf}
+use Rattle.run.proofs.Accepting.{outputs-first}
 use Rattle.layout.specs.Numbers.{numbersFrom, signedOf, signedBytes}
 use Rattle.layout.specs.Layout.{machineIn, bytesOfState}
 use Rattle.stretches.specs.Stretches.{WholeIs}

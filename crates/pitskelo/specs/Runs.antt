@@ -1,4 +1,4 @@
--- What pitskelo_recover and pitskelo_run leave, over the bytes that are lent: decoding, the definition of crate `recovery` or `machine`, and encoding.
+-- What pitskelo_recover and pitskelo_run leave, over the bytes that are lent: decoding, the definition of crate `recovery` or `run`, and encoding.
 -- Assumes nothing.
 use Prim.Native.Nat.{ℕ, _/_, min}
 use mathlib.Core.Path.{_≡_}
@@ -11,7 +11,7 @@ use Rattle.program.specs.Check.{checkOf, numberOf}
 use Rattle.program.specs.Places.{Places}
 use Rattle.step.specs.State.{envOf}
 use Rattle.step.specs.Ready.{Legal}
-use Rattle.machine.specs.Run.{Outcome, callOf, answerOf}
+use Rattle.run.specs.Run.{Outcome, callOf, answerOf}
 use Rattle.recovery.specs.Recover as recovery
 use Rattle.recovery.specs.Recover.{Recovers}
 use Rattle.layout.specs.Numbers.{numbersFrom, signedOf, signedBytes}

@@ -1,8 +1,8 @@
 // How a run ended, as numbers for C.
-use machine::Ended;
+use run::Ended;
 ghost use mathlib.Core.Path.{_≡_};
 ghost use lib.ListN.{getD};
-ghost use Rattle.machine.specs.Run.{answerOf};
+ghost use Rattle.run.specs.Run.{answerOf};
 
 // The number of a refusal, 0 where there is none.
 pub fn refusal(e: Ended) -> u32

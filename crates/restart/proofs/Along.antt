@@ -14,9 +14,9 @@ use borrow.Author.Tests.{eqb-true, eqb-false}
 use Rattle.program.proofs.Tests.{bool-cases}
 use Rattle.step.specs.State.{envOf, Machine}
 use Rattle.step.specs.Step.{dueOpcode, givenOf, takenOf}
-use Rattle.machine.specs.Run.{Call, started, stepped}
-use Rattle.machine.proofs.Laws as laws
-use Rattle.machine.proofs.Laws.{Goes}
+use Rattle.run.specs.Run.{Call, started, stepped}
+use Rattle.run.proofs.Laws as laws
+use Rattle.run.proofs.Laws.{Goes}
 use Rattle.restart.specs.Reference.{Frame, Numbered, numberedFrom, refAt, emitted, taken}
 use Rattle.restart.specs.History.{Tally, commits, tallied, talliedOver}
 use Rattle.restart.specs.Claim.{Plan, Safe}

@@ -16,8 +16,8 @@ use Rattle.journal.specs.Reading.{lastOf, savedIn, savedValue}
 use Rattle.journal.specs.Writing.{recordsOf}
 use Rattle.step.specs.State.{checkpointAt, imageAt, sizeAt, zeroFrom, marksFrom, soundOf}
 use Rattle.step.specs.Step.{effectAt, performed, begun, executedOf, erasedOf, storedOf, stepOf, dueOpcode, givenOf, takenOf}
-use Rattle.machine.specs.Run as run
-use Rattle.machine.specs.Run.{exitBefore, stepped, runOf, lateRefusal, callOf}
+use Rattle.run.specs.Run as run
+use Rattle.run.specs.Run.{exitBefore, stepped, runOf, lateRefusal, callOf}
 use Rattle.recovery.specs.Recover as recovery
 use Rattle.recovery.specs.Recover.{included, marksBy}
 use Rattle.restart.specs.Reference.{zeros, numberedFrom, frameAfter, effectIn, stays, nextFrame, outputAt, gathered, refAt, emitted}

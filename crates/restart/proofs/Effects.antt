@@ -27,7 +27,7 @@ use Rattle.analysis.proofs.Certificates.{follows-start}
 use Rattle.analysis.proofs.Access.{access-lt}
 use Rattle.step.specs.Step.{isSaves}
 use Rattle.step.specs.Ready.{Legal}
-use Rattle.machine.proofs.Laws.{push-effect}
+use Rattle.run.proofs.Laws.{push-effect}
 use Rattle.step.proofs.Allowed.{Allowed, may-set, may-save, allowed}
 
 -- ---- cells of an access

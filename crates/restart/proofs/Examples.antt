@@ -25,7 +25,7 @@ use Rattle.journal.specs.Shape.{Shape}
 use Rattle.journal.proofs.Torn.{Trimmed, trimmed-nil, trimmed-snoc}
 use Rattle.journal.proofs.Back.{erased-shape}
 use Rattle.step.specs.State.{Machine, machineOf}
-use Rattle.machine.specs.declared.Ended.the-variants.{Stopped, NoReading}
+use Rattle.run.specs.declared.Ended.the-variants.{Stopped, NoReading}
 use Rattle.recovery.specs.Recover.{refusalOf, outcome}
 use Rattle.recovery.specs.declared.Recovered.the-variants.{Restored}
 use Rattle.restart.specs.Reference.{zeros, Numbered, refAt, emitted}

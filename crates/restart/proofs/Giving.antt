@@ -16,7 +16,7 @@ use Rattle.program.proofs.Tests.{bool-cases}
 use Rattle.step.specs.State.{envOf, Machine, sizeAt}
 use Rattle.step.specs.Step.{effectAt, performed, begun, erasedOf, storedOf, stepOf, dueOpcode, givenBy, takenBy, givenOf, takenOf}
 use Rattle.step.proofs.Facts.{sound-facts}
-use Rattle.machine.proofs.Laws as laws
+use Rattle.run.proofs.Laws as laws
 use Rattle.restart.specs.Reference.{Frame, frameOf, numberedFrom, readingAt, effectIn, stays, outputAt, takenAt, refAt, emitted, taken}
 use Rattle.restart.specs.History.{Tally, tallied}
 use Rattle.restart.specs.Claim.{Plan, Safe}

@@ -15,10 +15,10 @@ use Rattle.execution.specs.Effects.{countFull, isFull, effectOf, readingsAfter,
 use Rattle.program.proofs.Tests.{bool-cases}
 use Rattle.step.specs.State.{Machine}
 use Rattle.step.specs.Step.{dueOpcode}
-use Rattle.machine.specs.Run.{Outcome}
-use Rattle.machine.specs.declared.Ended.{Ended}
-use Rattle.machine.specs.declared.Ended.the-variants.{Stopped}
-use Rattle.machine.proofs.Laws.{Exits, stopped, spent, no-reading, buffer-full}
+use Rattle.run.specs.Run.{Outcome}
+use Rattle.run.specs.declared.Ended.{Ended}
+use Rattle.run.specs.declared.Ended.the-variants.{Stopped}
+use Rattle.run.proofs.Laws.{Exits, stopped, spent, no-reading, buffer-full}
 use Rattle.restart.specs.Reference.{Frame, frameAfter, effectIn, stays, refAt}
 use Rattle.restart.specs.History.{System, Request, lent, outcomeOf, tallyAfter, ran}
 use Rattle.restart.specs.Claim.{Plan, Safe, spare, Suffices, Chain, one, more}

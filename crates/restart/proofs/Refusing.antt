@@ -10,9 +10,9 @@ use lib.ListN.{length}
 use lib.Dec.{eqb}
 use Rattle.program.proofs.Tests.{bool-cases}
 use Rattle.step.specs.State.{Env, Machine}
-use Rattle.machine.specs.Run.{Call, Outcome, started, refusalOf, refusedWith, callOf}
-use Rattle.machine.specs.declared.Ended.{Ended}
-use Rattle.machine.proofs.Laws.{Exits, stopped, spent, no-reading, buffer-full, run-exit}
+use Rattle.run.specs.Run.{Call, Outcome, started, refusalOf, refusedWith, callOf}
+use Rattle.run.specs.declared.Ended.{Ended}
+use Rattle.run.proofs.Laws.{Exits, stopped, spent, no-reading, buffer-full, run-exit}
 use Rattle.recovery.specs.Recover as recovery
 use Rattle.recovery.specs.Recover.{Recovers}
 use Rattle.recovery.specs.declared.Recovered.the-variants as recovered

@@ -20,9 +20,9 @@ use Rattle.journal.specs.Reading.{Facts, factsOf, first, Absent, Once, Sound, R
 use Rattle.journal.specs.Shape.{Shape}
 use Rattle.journal.proofs.Back.{erased-shape}
 use Rattle.step.specs.State.{Env, Machine, machineOf}
-use Rattle.machine.specs.Run as run
-use Rattle.machine.specs.declared.Ended.{Ended}
-use Rattle.machine.specs.declared.Ended.the-variants.{NoReading, Spent}
+use Rattle.run.specs.Run as run
+use Rattle.run.specs.declared.Ended.{Ended}
+use Rattle.run.specs.declared.Ended.the-variants.{NoReading, Spent}
 use Rattle.recovery.specs.Recover.{refusalOf, regsOf, included, marksBy, Outcome, outcome}
 use Rattle.recovery.specs.declared.Recovered.the-variants.{Restored}
 use Rattle.restart.specs.Reference.{zeros, numberedFrom, stays, refAt, emitted}

@@ -7,9 +7,9 @@ use native.Mathlib.Omega.{arith}
 use lib.IntN.{ℤ}
 use lib.ListN.{length}
 use Rattle.step.specs.State.{Env, envOf, Machine}
-use Rattle.machine.specs.Run as run
-use Rattle.machine.specs.Run.{Finish, Outcome, started, runOf, refusalOf, callOf}
-use Rattle.machine.proofs.Accepting.{not-refused}
+use Rattle.run.specs.Run as run
+use Rattle.run.specs.Run.{Finish, Outcome, started, runOf, refusalOf, callOf}
+use Rattle.run.proofs.Accepting.{not-refused}
 use Rattle.restart.specs.Reference.{Frame, refAt}
 use Rattle.restart.specs.History.{talliedOver, System, Request, lent, outcomeOf, tallyAfter}
 use Rattle.restart.specs.Claim.{Plan, Safe}

@@ -11,7 +11,7 @@ use Rattle.journal.specs.Reading.{factsOf, lastOf, savedValue}
 use Rattle.journal.specs.Shape.{Shape}
 use Rattle.journal.proofs.Back.{erased-shape}
 use Rattle.step.specs.State.{Machine}
-use Rattle.machine.proofs.Accepting.{not-refused}
+use Rattle.run.proofs.Accepting.{not-refused}
 use Rattle.restart.specs.Reference.{Frame, zeros, refAt}
 use Rattle.restart.specs.History.{System, History, begins, refused-recovery, refused-run, recovers, crashes, runs, crashed-run}
 use Rattle.restart.specs.Claim.{Plan, Safe, TakenUp, Claim, Erased, Demand3}

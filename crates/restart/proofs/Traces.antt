@@ -7,8 +7,8 @@ use native.Mathlib.Omega.{arith}
 use lib.IntN.{ℤ}
 use lib.ListN.{length}
 use Rattle.step.specs.State.{Env}
-use Rattle.machine.specs.Run.{Call, Finish, stepped, runOf}
-use Rattle.machine.proofs.Laws.{Exits, Goes, exit-none, run-ends, makes-step, run-ind, steps-within, run-exit}
+use Rattle.run.specs.Run.{Call, Finish, stepped, runOf}
+use Rattle.run.proofs.Laws.{Exits, Goes, exit-none, run-ends, makes-step, run-ind, steps-within, run-exit}
 
 module _ (e : Env) (ρ : List ℤ) (room : ℕ) where
   -- k steps lead from a call to another, with no exit before any of them

@@ -12,7 +12,7 @@ use Rattle.journal.specs.Format.{Checkpoint}
 use Rattle.journal.specs.Reading.{factsOf}
 use Rattle.journal.specs.Shape.{Shape}
 use Rattle.step.specs.State.{envOf, Machine}
-use Rattle.machine.specs.Run.{Outcome}
+use Rattle.run.specs.Run.{Outcome}
 use Rattle.recovery.specs.Recover as recovery
 use Rattle.recovery.specs.Recover.{Recovers}
 use Rattle.recovery.specs.declared.Recovered.the-variants as recovered
@@ -25,7 +25,7 @@ use Rattle.restart.proofs.Phases.{phase-shape}
 use Rattle.restart.proofs.Restoring.{restored-inv}
 use Rattle.restart.proofs.Stopping.{runs-before, steps-paid}
 use Rattle.restart.proofs.Runs.{Ran, run-is}
-use Rattle.machine.proofs.Accepting.{outputs-first}
+use Rattle.run.proofs.Accepting.{outputs-first}
 
 -- of any system: the journal can be taken up at the tally of the last final byte; the outputs; the steps since the recovery
 pub record Lasting (p : List ℕ) (ρ : List ℤ) (f₀ : Frame) (n t₀ : ℕ) (s : System) : Type 0 where

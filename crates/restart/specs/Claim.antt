@@ -21,10 +21,10 @@ use Rattle.journal.specs.Format.{Checkpoint}
 use Rattle.journal.specs.Reading.{first, factsOf, lastOf, savedValue}
 use Rattle.journal.specs.Shape.{Shape}
 use Rattle.step.specs.State.{envOf, Machine}
-use Rattle.machine.specs.Run.{refusalOf, Outcome}
+use Rattle.run.specs.Run.{refusalOf, Outcome}
 use Rattle.step.specs.Ready.{Legal}
-use Rattle.machine.specs.declared.Ended.{Ended}
-use Rattle.machine.specs.declared.Ended.the-variants.{Stopped}
+use Rattle.run.specs.declared.Ended.{Ended}
+use Rattle.run.specs.declared.Ended.the-variants.{Stopped}
 use Rattle.recovery.specs.Recover as recovery
 use Rattle.recovery.specs.Recover.{Recovers}
 use Rattle.recovery.specs.declared.Recovered.the-variants as recovered

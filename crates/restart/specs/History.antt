@@ -9,9 +9,9 @@ use lib.ListN.{length, take, drop}
 use lib.Dec.{eqb, ltb}
 use Rattle.instruction.specs.Bytes.{byte}
 use Rattle.step.specs.State.{Env, envOf, Machine, machineOf, sizeAt, fitsAt}
-use Rattle.machine.specs.Run.{Call, started, stepped, Outcome, callOf}
-use Rattle.machine.specs.declared.Ended.{Ended}
-use Rattle.machine.specs.declared.Ended.the-variants as ended
+use Rattle.run.specs.Run.{Call, started, stepped, Outcome, callOf}
+use Rattle.run.specs.declared.Ended.{Ended}
+use Rattle.run.specs.declared.Ended.the-variants as ended
 use Rattle.recovery.specs.Recover as recovery
 use Rattle.recovery.specs.Recover.{Recovers}
 use Rattle.recovery.specs.declared.Recovered.the-variants as recovered

@@ -17,9 +17,9 @@ use Rattle.marks.specs.declared.Mark.{Mark}
 use Rattle.marks.specs.declared.Mark.the-variants.{Pending, Dead}
 use Rattle.marks.specs.Marks.{excluded}
 use Rattle.step.specs.State.{Env, envOf, Machine}
-use Rattle.machine.specs.Run.{Outcome, callOf}
-use Rattle.machine.specs.declared.Ended.{Ended}
-use Rattle.machine.specs.declared.Ended.the-variants.{NoReading, Spent}
+use Rattle.run.specs.Run.{Outcome, callOf}
+use Rattle.run.specs.declared.Ended.{Ended}
+use Rattle.run.specs.declared.Ended.the-variants.{NoReading, Spent}
 use Rattle.recovery.specs.Recover as recovery
 use Rattle.recovery.specs.Recover.{Recovers}
 use Rattle.recovery.specs.declared.Recovered.the-variants.{Restored}

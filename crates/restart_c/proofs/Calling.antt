@@ -12,9 +12,9 @@ use Rattle.program.proofs.Tests.{bool-cases}
 use Rattle.journal.specs.declared.Scanned.{Scanned}
 use Rattle.journal.specs.declared.Scanned.the-variants.{Damaged, Found}
 use Rattle.step.specs.State.{Env, Machine}
-use Rattle.machine.specs.Run.{answerOf}
-use Rattle.machine.specs.declared.Ended.{Ended}
-use Rattle.machine.specs.declared.Ended.the-variants as ended
+use Rattle.run.specs.Run.{answerOf}
+use Rattle.run.specs.declared.Ended.{Ended}
+use Rattle.run.specs.declared.Ended.the-variants as ended
 use Rattle.recovery.specs.Recover as recovery
 use Rattle.recovery.specs.Recover.{recoverOf, Recovers, refuses, reads}
 use Rattle.recovery.specs.declared.Recovered.{Recovered}

@@ -21,11 +21,11 @@ use Rattle.execution.specs.Effects.{isFull, effectOf, cellsIn}
 use Rattle.program.proofs.Tests.{bool-cases}
 use Rattle.step.specs.State.{Env, Machine}
 use Rattle.step.specs.Step.{effectAt, givenBy, givenOf}
-use Rattle.machine.specs.Run.{Call, Finish, Outcome, started, stepped, runOf, outcomeOf, refusalOf, callOf}
-use Rattle.machine.proofs.Laws.{given-within}
+use Rattle.run.specs.Run.{Call, Finish, Outcome, started, stepped, runOf, outcomeOf, refusalOf, callOf}
+use Rattle.run.proofs.Laws.{given-within}
 use Rattle.layout.specs.Numbers.{signedFrom, signedOf, signedBytes}
 use Rattle.restart.specs.History.{Accepted}
-use Rattle.machine.proofs.Accepting.{outputs-first}
+use Rattle.run.proofs.Accepting.{outputs-first}
 use Rattle.restart.proofs.Traces.{Trace, none, more, traced}
 use Rattle.restart.proofs.Refusing.{exit-accepted}
 use Rattle.layout.proofs.Laws.{signed-bytes-length, signed-length}

@@ -10,7 +10,7 @@ use lib.Dec.{eqb}
 use lib.IntN.{ℤ}
 use lib.ListN.{length, getD, take, replicate, length-replicate}
 use Rattle.step.specs.State.{envOf, Machine}
-use Rattle.machine.specs.Run.{Outcome, started, callOf, answerOf}
+use Rattle.run.specs.Run.{Outcome, started, callOf, answerOf}
 use Rattle.recovery.proofs.Laws.{journal-stays}
 use Rattle.layout.specs.Numbers.{signedOf}
 use Rattle.layout.specs.Layout.{stateSize, machineIn, bytesOfState}
@@ -25,7 +25,7 @@ use Rattle.restart.specs.Reference.{numberedFrom, zeros}
 use Rattle.restart.specs.History as list
 use Rattle.restart.specs.History.{Tally, talliedOver, System, Request, outcomeOf, tallyAfter, History}
 use Rattle.restart.specs.Claim.{Plan, Claim, Safe, Erased}
-use Rattle.machine.proofs.Accepting.{not-refused}
+use Rattle.run.proofs.Accepting.{not-refused}
 use Rattle.restart.proofs.Upheld.{Upheld}
 use Rattle.restart.proofs.Theorem.{upheld, claim, erased-taken}
 use Rattle.restart_c.specs.Calls.{Board, systemOf, restored, ran, Lends, Calls, Found, Answers, Demand3}

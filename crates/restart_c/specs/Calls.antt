@@ -7,7 +7,7 @@ use mathlib.Core.Bool.{Bool, true, false, cond}
 use mathlib.Core.List.{List, [], _++_}
 use lib.IntN.{ℤ}
 use lib.ListN.{length, getD, take, drop, replicate}
-use Rattle.machine.specs.Run.{started}
+use Rattle.run.specs.Run.{started}
 use Rattle.step.specs.State.{envOf}
 use Rattle.layout.specs.Numbers.{signedOf}
 use Rattle.layout.specs.Layout.{stateSize, machineIn}

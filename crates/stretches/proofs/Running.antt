@@ -11,10 +11,10 @@ use lib.ListN.{length, getD, take, drop, length-append}
 use lib.Seq.{sets, take-append-le, length-take-le}
 use Rattle.program.proofs.Tests.{bool-cases}
 use Rattle.step.specs.State.{Env, Machine}
-use Rattle.machine.specs.Run.{Call, Finish, Outcome, outcome, outcomeOf, refusedWith, started, runOf, refusalOf, callOf, answerOf}
-use Rattle.machine.specs.declared.Ended.{Ended}
-use Rattle.machine.proofs.Laws.{Exits, stopped, spent, no-reading, buffer-full, run-exit, given-within}
-use Rattle.machine.proofs.Accepting.{outputs-first}
+use Rattle.run.specs.Run.{Call, Finish, Outcome, outcome, outcomeOf, refusedWith, started, runOf, refusalOf, callOf, answerOf}
+use Rattle.run.specs.declared.Ended.{Ended}
+use Rattle.run.proofs.Laws.{Exits, stopped, spent, no-reading, buffer-full, run-exit, given-within}
+use Rattle.run.proofs.Accepting.{outputs-first}
 use Rattle.layout.specs.Numbers.{signedFrom, signedOf, signedBytes}
 use Rattle.layout.proofs.Laws.{signed-length, signed-drop, signed-take}
 use Rattle.stretches.specs.Stretches.{Lends, StretchIs}

@@ -11,13 +11,13 @@ use lib.ListN.{length, take, drop, length-append, length-drop}
 use lib.Seq.{length-take-le}
 use Rattle.program.proofs.Tests.{clash}
 use Rattle.step.specs.State.{Env, Machine}
-use Rattle.machine.specs.Run.{Call, Finish, started, stepped, runOf, refusalOf}
+use Rattle.run.specs.Run.{Call, Finish, started, stepped, runOf, refusalOf}
 use Rattle.step.specs.Step.{dueOpcode}
-use Rattle.machine.specs.declared.Ended.{Ended}
-use Rattle.machine.specs.declared.Ended.the-variants.{Refused, Stopped, Spent, NoReading, BufferFull}
-use Rattle.machine.proofs.Laws.{Exits, stopped, spent, no-reading, buffer-full, makes-step, due-step, steps-within, run-exit}
-use Rattle.machine.proofs.Laws.{stretch-both, stretch-both-else, taken-within, given-within, onto, finishOnto, run-onto, begun-afresh}
-use Rattle.machine.proofs.Accepting.{not-refused, accepts, accepts-run}
+use Rattle.run.specs.declared.Ended.{Ended}
+use Rattle.run.specs.declared.Ended.the-variants.{Refused, Stopped, Spent, NoReading, BufferFull}
+use Rattle.run.proofs.Laws.{Exits, stopped, spent, no-reading, buffer-full, makes-step, due-step, steps-within, run-exit}
+use Rattle.run.proofs.Laws.{stretch-both, stretch-both-else, taken-within, given-within, onto, finishOnto, run-onto, begun-afresh}
+use Rattle.run.proofs.Accepting.{not-refused, accepts, accepts-run}
 use Rattle.stretches.specs.Stretches.{goesOn}
 
 -- c is a call so far of the run F with the budget, over all readings and places

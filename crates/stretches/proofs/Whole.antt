@@ -12,9 +12,9 @@ use lib.ListN.{length, take, drop, length-append}
 use lib.Seq.{sets, length-sets}
 use Rattle.program.proofs.Tests.{bool-cases, clash}
 use Rattle.step.specs.State.{Env, Machine}
-use Rattle.machine.specs.Run.{Call, Finish, Outcome, outcome, outcomeOf, started, runOf, refusalOf}
-use Rattle.machine.specs.declared.Ended.{Ended}
-use Rattle.machine.specs.declared.Ended.the-variants.{Refused}
+use Rattle.run.specs.Run.{Call, Finish, Outcome, outcome, outcomeOf, started, runOf, refusalOf}
+use Rattle.run.specs.declared.Ended.{Ended}
+use Rattle.run.specs.declared.Ended.the-variants.{Refused}
 use Rattle.layout.specs.Numbers.{signedOf, signedBytes}
 use Rattle.layout.proofs.Laws.{stores-join, signed-bytes-append, signed-bytes-length}
 use Rattle.stretches.specs.Stretches.{goesOn, StretchIs, WholeIs}

@@ -9,9 +9,9 @@ use lib.ListN.{length, take, drop}
 use lib.Seq.{sets}
 use lib.Dec.{ltb}
 use Rattle.step.specs.State.{Env, Machine}
-use Rattle.machine.specs.Run.{outcome, callOf}
-use Rattle.machine.specs.declared.Ended.{Ended}
-use Rattle.machine.specs.declared.Ended.the-variants.{Refused, Stopped, Spent, NoReading, BufferFull}
+use Rattle.run.specs.Run.{outcome, callOf}
+use Rattle.run.specs.declared.Ended.{Ended}
+use Rattle.run.specs.declared.Ended.the-variants.{Refused, Stopped, Spent, NoReading, BufferFull}
 use Rattle.layout.specs.Numbers.{signedBytes}
 
 -- n of the rest, and some where there are some and the budget is not spent

@@ -3,10 +3,10 @@
 // run over all (proofs/Stretches.antt).
 use layout::load_signed;
 use layout::store_signed;
-use machine::Ended;
-use machine::Pass;
-use machine::Stand;
-use machine::run_in_place;
+use run::Ended;
+use run::Pass;
+use run::Stand;
+use run::run_in_place;
 use step::Regs;
 ghost use mathlib.Core.Path.{_≡_};
 ghost use Prim.Native.Nat.{_+_, _-_, _/_, _≤_, _<_};
@@ -14,7 +14,7 @@ ghost use lib.ListN.{length};
 ghost use Rattle.program.specs.Places.{Places};
 ghost use Rattle.step.specs.State.{envOf, machineOf};
 ghost use Rattle.step.specs.Ready.{Legal};
-ghost use Rattle.machine.specs.Standing.{Within};
+ghost use Rattle.run.specs.Standing.{Within};
 ghost use Rattle.layout.specs.Numbers.{signedOf};
 ghost use Rattle.stretches.specs.Stretches.{Lends, goesOn, StretchIs, WholeIs};
 

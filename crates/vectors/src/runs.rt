@@ -2,8 +2,8 @@
 // output buffer full, or `refused` and the number), its steps, readings taken and outputs written, the
 // outputs, and the bytes of the chip; for document 001's programs, the number of its cells and of those in each save.
 use libc::STDOUT_FILENO;
-use machine::Ended;
-use machine::run_value;
+use run::Ended;
+use run::run_value;
 use step::Regs;
 use step::State;
 

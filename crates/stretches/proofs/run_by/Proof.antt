@@ -8,7 +8,7 @@ use native.Mathlib.Omega.{arith}
 use mathlib.Core.Bool.{true}
 use lib.ListN.{length}
 use Rattle.stretches.specs.Stretches.{goesOn}
-use Rattle.machine.specs.declared.Stand.{Stand}
+use Rattle.run.specs.declared.Stand.{Stand}
 use Rattle.step.specs.State.{Machine, envOf, machineOf}
 use Rattle.layout.specs.Numbers.{signedOf}
 use Rattle.stretches.proofs.Running.{signed-of-length}
