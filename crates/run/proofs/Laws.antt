@@ -213,11 +213,6 @@ module _ (e : Env) (ρ : List ℤ) (room : ℕ) where
   unfolding runOf
   makes-step left c h = rw h
 
-  -- a run that is not stopped and has budget, a reading where a READ is due and a place where an EMIT is due
-  pub due-step : (left : ℕ) (c : Call) → c .machine .regs .stop ≡ 0 → (dueOpcode (e .program) (c .machine) ≡ 0x07 → c .taken < length ρ)
-      → (dueOpcode (e .program) (c .machine) ≡ 0x08 → length (c .given) < room) → exitBefore (e .program) (suc left) (length ρ) room c ≡ none
-  due-step left c s r w = exit-none (record { runs = s; some-left = omega arith; reading = λ d t. omega (arith, r d, t); place = λ d t. omega (arith, w d, t) })
-
   -- what holds at an exit and is kept by a step holds of every run
   pub run-ind : (Q : ℕ → Call → Type 0) → ((left : ℕ) (c : Call) (x : Ended) → Exits (e .program) left (length ρ) room c x → Q left c)
       → ((left : ℕ) (c : Call) → Goes (e .program) (suc left) (length ρ) room c → Q left (stepped e ρ c) → Q (suc left) c) → (left : ℕ) (c : Call) → Q left c
@@ -429,7 +424,8 @@ onto c d = record { machine = d .machine; steps = c .steps + d .steps; taken = c
 abbrev pub finishOnto : Call → Finish → Finish
 finishOnto c r = record { ended = r .ended; call = onto c (r .call) }
 
-onto-started : (c : Call) → c ≡ onto c (started (c .machine))
+-- a call stands where it does with nothing more
+pub onto-started : (c : Call) → c ≡ onto c (started (c .machine))
 onto-started c =
     let s : c .steps ≡ c .steps + 0 = omega arith in
     let t : c .taken ≡ c .taken + 0 = omega arith in

@@ -2,6 +2,7 @@
 -- Assumes nothing.
 use Prim.Native.Nat.{ℕ, _+_, _-_, _*_, _/_, _≤_}
 use mathlib.Core.Path.{_≡_, refl, sym, _∙_, ap}
+use mathlib.Core.Bool.{cond}
 use mathlib.Core.List.{List, [], _∷_, _++_}
 use native.Mathlib.Omega.{arith}
 use borrow.Author.Tests.{ne-eqb, eqb-true, eqb-false}
@@ -13,6 +14,7 @@ use Rattle.program.proofs.Tests.{bool-cases}
 use Rattle.step.specs.State.{Env, Machine}
 use Rattle.run.specs.Run.{Call, Finish, Outcome, outcome, outcomeOf, refusedWith, started, runOf, refusalOf, callOf, answerOf}
 use Rattle.run.specs.declared.Ended.{Ended}
+use Rattle.run.specs.declared.Ended.the-variants.{Refused}
 use Rattle.run.proofs.Laws.{Exits, stopped, spent, no-reading, buffer-full, run-exit, given-within}
 use Rattle.run.proofs.Accepting.{outputs-first}
 use Rattle.layout.specs.Numbers.{signedFrom, signedOf, signedBytes}
@@ -32,9 +34,16 @@ exit-kind (no-reading h l d t) = (refl, refl)
 exit-kind (buffer-full h l d t) = (refl, refl)
 
 -- ---- a call
+
+-- the run from c on with so much budget left; where the machine is refused, it alters nothing
+unfoldable pub resumed : Env → List ℤ → (room left : ℕ) → Call → Finish
+resumed e ρ room left c =
+    let n = refusalOf e (c .machine) in
+    cond (eqb n 0) (runOf e ρ room left c) (record { ended = Refused n; call = c })
+
 module _ (e : Env) (ρ : List ℤ) (budget : ℕ) (m : Machine) (outs : List ℤ) where
   -- where it is not refused it is the run
-  pub call-accepted : refusalOf e m ≡ 0 → callOf e ρ budget m outs ≡ outcomeOf (runOf e ρ (length outs) budget (started m)) outs
+  call-accepted : refusalOf e m ≡ 0 → callOf e ρ budget m outs ≡ outcomeOf (runOf e ρ (length outs) budget (started m)) outs
   unfolding callOf
   call-accepted h = rw h
 
@@ -54,16 +63,20 @@ module _ (e : Env) (ρ : List ℤ) (budget : ℕ) (m : Machine) (outs : List ℤ
   pub call-values : refusalOf e m ≡ 0 → answerOf (callOf e ρ budget m outs .ended) .values ≡ getD (answerOf (callOf e ρ budget m outs .ended) .values) 0 0 ∷ []
   call-values z = rw (call-accepted z) (exit-kind (run-exit e ρ (length outs) budget (started m)) .1)
 
+  -- in both cases it is the run from the start on
+  pub call-is : callOf e ρ budget m outs ≡ outcomeOf (resumed e ρ (length outs) budget (started m)) outs
+  unfolding callOf resumed
+  call-is = bool-cases (eqb (refusalOf e m) 0) (λ b. rw b) (λ b. rw b)
+
   -- its outputs are within the places
-  call-given : length (runOf e ρ (length outs) budget (started m) .call .given) ≤ length outs
-  call-given = given-within e ρ (length outs) budget (started m) (omega arith)
+  call-given : length (resumed e ρ (length outs) budget (started m) .call .given) ≤ length outs
+  unfolding resumed
+  call-given =
+      bool-cases (eqb (refusalOf e m) 0) (λ b. rw b (given-within e ρ (length outs) budget (started m) (omega arith))) (λ b. rw b (omega arith))
 
   -- so it writes no more than there are
   call-written : callOf e ρ budget m outs .written ≤ length outs
-  call-written =
-      bool-cases (eqb (refusalOf e m) 0)
-      (λ b. rw (call-accepted (eqb-true _ _ b)) call-given)
-      (λ b. rw (call-refused (eqb-false _ _ b)) (omega arith))
+  call-written = rw call-is call-given
 
 -- ---- a stretch
 
@@ -74,22 +87,20 @@ finishIn o =
 
 module _ {e : Env} {ρ : List ℤ} {budget t w : ℕ} {m₀ : Machine} {b₀ : List ℕ} {x : Ended} {m : Machine} {steps taken written : ℕ} {b : List ℕ}
     (s : StretchIs e ρ budget t w m₀ b₀ x m steps taken written b) where
-  -- the stretch of an accepted machine is a run
-  pub stretch-run : refusalOf e m₀ ≡ 0
-      → finishIn (outcome x m steps taken written (s .outputs)) ≡ runOf e (take (s .count) (drop t ρ)) (length (s .places)) budget (started m₀)
-  stretch-run h =
+  -- the stretch is a run from the start on
+  pub stretch-run : finishIn (outcome x m steps taken written (s .outputs)) ≡ resumed e (take (s .count) (drop t ρ)) (length (s .places)) budget (started m₀)
+  stretch-run =
       let r = take (s .count) (drop t ρ) in
-      let f = runOf e r (length (s .places)) budget (started m₀) in
-      ap finishIn (s .is ∙ call-accepted e r budget m₀ (s .places) h)
+      let f = resumed e r (length (s .places)) budget (started m₀) in
+      ap finishIn (s .is ∙ call-is e r budget m₀ (s .places))
       ∙ ap (λ (g : List ℤ). record { ended = f .ended; call = record { machine = f .call .machine; steps = f .call .steps; taken = f .call .taken; given = g } })
       (outputs-first (f .call .given) (s .places) (call-given e r budget m₀ (s .places)))
 
   -- its outputs are as many as it wrote
-  pub stretch-given : refusalOf e m₀ ≡ 0 → length (take written (s .outputs)) ≡ written
-  stretch-given h =
+  pub stretch-given : length (take written (s .outputs)) ≡ written
+  stretch-given =
       let r = take (s .count) (drop t ρ) in
-      ap (λ (z : Finish). length (z .call .given)) (stretch-run h)
-      ∙ sym (ap (λ (o : Outcome). o .written) (s .is ∙ call-accepted e r budget m₀ (s .places) h))
+      ap (λ (z : Finish). length (z .call .given)) stretch-run ∙ sym (ap (λ (o : Outcome). o .written) (s .is ∙ call-is e r budget m₀ (s .places)))
 
 -- the readings loaded for a stretch are those behind the first t
 loaded : (r : List ℕ) (t n : ℕ) → t ≤ length r / 4 → n ≤ length r / 4 - t → take n (drop t (signedOf r)) ≡ signedFrom n r (4 * t)

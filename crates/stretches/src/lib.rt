@@ -119,28 +119,13 @@ fn run_by(
 {
     let n = readings.len() / 4;
     let m = outputs.len() / 4;
-    let start = Pass {
+    let mut b = Pass {
         regs,
         steps: 0,
         taken: 0,
         written: 0,
     };
-    let mut at = stretch(
-        start,
-        plan,
-        table,
-        sets,
-        cells,
-        marks,
-        chip,
-        readings,
-        outputs,
-        budget,
-        values,
-        places,
-    );
-    while goes_on(at, n, m) {
-        let b = at.pass;
+    loop {
         let next = stretch(
             b,
             plan,
@@ -155,9 +140,12 @@ fn run_by(
             values,
             places,
         );
-        at = joined(b, next);
+        let at = joined(b, next);
+        if !goes_on(at, n, m) {
+            return at;
+        }
+        b = at.pass;
     }
-    at
 }
 
 fn short_buffer() -> [i32; 16]
