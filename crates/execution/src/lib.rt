@@ -5,6 +5,7 @@ use instruction::opcodes::ADD;
 use instruction::opcodes::COPY;
 use instruction::opcodes::DIV;
 use instruction::opcodes::GET;
+use instruction::opcodes::JUMP;
 use instruction::opcodes::LENGTHS;
 use instruction::opcodes::LESS;
 use instruction::opcodes::PUT;
@@ -145,15 +146,15 @@ pub fn plain(p: &[u8], cells: &mut [u32; 256], at: usize) -> u32
     ensures { λ r. ⌜ moved r (now (cells .exit)) ≡ plainOf (now (p .entry)) at (now (cells .entry)) ⌝ }
 {
     match p[at] {
-        2 => set_cell(p, cells, at),
-        3 => copy(p, cells, at),
-        4 => add(p, cells, at),
-        5 => sub(p, cells, at),
-        6 => div(p, cells, at),
-        9 => load16(p, at + 1) as u32,
-        10 => less(p, cells, at),
-        11 => get(p, cells, at),
-        12 => put(p, cells, at),
+        SET => set_cell(p, cells, at),
+        COPY => copy(p, cells, at),
+        ADD => add(p, cells, at),
+        SUB => sub(p, cells, at),
+        DIV => div(p, cells, at),
+        JUMP => load16(p, at + 1) as u32,
+        LESS => less(p, cells, at),
+        GET => get(p, cells, at),
+        PUT => put(p, cells, at),
         _ => 0,
     }
 }

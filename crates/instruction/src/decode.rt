@@ -1,5 +1,18 @@
 // Reading a program's bytes: every function answers at every offset, with 0 for a byte past the end.
 use crate::Instruction;
+use crate::opcodes::ADD;
+use crate::opcodes::CHECKPOINT;
+use crate::opcodes::COPY;
+use crate::opcodes::DIV;
+use crate::opcodes::EMIT;
+use crate::opcodes::EXCLUDE;
+use crate::opcodes::GET;
+use crate::opcodes::JUMP;
+use crate::opcodes::LESS;
+use crate::opcodes::PUT;
+use crate::opcodes::READ;
+use crate::opcodes::SET;
+use crate::opcodes::SUB;
 ghost use mathlib.Core.Path.{_≡_};
 ghost use mathlib.Core.List.{[], _∷_};
 ghost use Prim.Native.Nat.{_+_};
@@ -43,36 +56,36 @@ pub fn instruction_at(p: &[u8], at: usize) -> Instruction
     let z = operand(p, at, 3);
     let w = operand(p, at, 4);
     match k {
-        2 => Instruction::Set {
+        SET => Instruction::Set {
             d: x,
             v: word::from_bytes(y, z, w, operand(p, at, 5)),
         },
-        3 => Instruction::Copy { d: x, a: y },
-        4 => Instruction::Add { d: x, a: y, b: z },
-        5 => Instruction::Sub { d: x, a: y, b: z },
-        6 => Instruction::Div { d: x, a: y, b: z },
-        7 => Instruction::Read { d: x },
-        8 => Instruction::Emit { a: x },
-        9 => Instruction::Jump { t: half(x, y) },
-        10 => Instruction::Less {
+        COPY => Instruction::Copy { d: x, a: y },
+        ADD => Instruction::Add { d: x, a: y, b: z },
+        SUB => Instruction::Sub { d: x, a: y, b: z },
+        DIV => Instruction::Div { d: x, a: y, b: z },
+        READ => Instruction::Read { d: x },
+        EMIT => Instruction::Emit { a: x },
+        JUMP => Instruction::Jump { t: half(x, y) },
+        LESS => Instruction::Less {
             a: x,
             b: y,
             t: half(z, w),
         },
-        11 => Instruction::Get {
+        GET => Instruction::Get {
             d: x,
             base: y,
             len: z,
             i: w,
         },
-        12 => Instruction::Put {
+        PUT => Instruction::Put {
             base: x,
             len: y,
             i: z,
             a: w,
         },
-        13 => Instruction::Exclude,
-        14 => Instruction::Checkpoint,
+        EXCLUDE => Instruction::Exclude,
+        CHECKPOINT => Instruction::Checkpoint,
         _ => Instruction::End,
     }
 }

@@ -1,6 +1,8 @@
 // The fields of a commit, whole or cut: whether the bytes that are there begin those of a sound one. Past the
 // end a byte counts as FF, which makes a cut count the largest that it begins.
 use crate::Commit;
+use crate::ERASED;
+use crate::MARK_END;
 use program::places::place_at;
 use word::from_bytes;
 use word::load16;
@@ -15,7 +17,7 @@ ghost use Rattle.journal.specs.Parts.{Decides, byteAt, offsetIn, Some, N
 pub fn byte_at(l: &[u8], i: usize) -> u8
     ensures { λ r. ⌜ r ≡ byteAt (now (l .entry)) i ⌝ }
 {
-    if i < l.len() { l[i] } else { 0xff }
+    if i < l.len() { l[i] } else { ERASED }
 }
 
 // Whether a commit may name the offset t, as its last EXCLUDE or as its place.
@@ -96,7 +98,7 @@ pub fn fields_begin(l: &[u8], i: usize, table: &[u8; 2048], last: Commit) -> boo
     if l.len() <= i + 12 {
         return true;
     }
-    l[i + 12] == 0x5a
+    l[i + 12] == MARK_END
 }
 
 // The commit whose fields stand at i.

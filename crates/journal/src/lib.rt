@@ -21,6 +21,15 @@ ghost use lib.ListN.{length};
 ghost use Rattle.journal.specs.Answer.{factsIn, Blank, Scans};
 ghost use Rattle.journal.specs.Parts.{Content, WalkIs};
 
+// The bytes of the format: the first of a cell's record, the first and the last of a MARK, and an erased one.
+pub const RECORD: u8 = 0xa1;
+
+pub const MARK: u8 = 0xa2;
+
+pub const MARK_END: u8 = 0x5a;
+
+pub const ERASED: u8 = 0xff;
+
 // What a checkpoint ends with (document 01: its MARK): the offset after the CHECKPOINT, that of the last
 // EXCLUDE executed or 0, the readings taken and the outputs given.
 pub struct Commit {
@@ -53,7 +62,7 @@ fn content(l: &[u8]) -> usize
 {
     let mut r = l.len();
     while 0 < r {
-        if l[r - 1] != 0xff {
+        if l[r - 1] != ERASED {
             return r;
         }
         r -= 1;

@@ -1,5 +1,6 @@
 // The records of a checkpoint: where they end, whether bytes begin one more, and the values they hold. The cells
 // that have a record bear the checkpoint's stamp.
+use crate::RECORD;
 use word::load32;
 ghost use mathlib.Core.Path.{_≡_};
 ghost use mathlib.Core.List.{[]};
@@ -15,7 +16,7 @@ pub fn records_end(l: &[u8], at: usize, n: usize, seen: &mut [u32; 256]) -> usiz
     let stamp = at as u32 + 1;
     let mut i = at;
     while i + 6 <= l.len() {
-        if l[i] != 0xa1 {
+        if l[i] != RECORD {
             return i;
         }
         let x = l[i + 1] as usize;

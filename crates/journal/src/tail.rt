@@ -1,5 +1,7 @@
 // What follows the records of a checkpoint.
 use crate::Commit;
+use crate::MARK;
+use crate::RECORD;
 use crate::fields::fields_begin;
 use crate::fields::some_offset;
 use crate::records::cell_begins;
@@ -37,7 +39,7 @@ pub fn tail_at(
         }
         return Tail::Bad;
     }
-    if l[i] == 0xa2 {
+    if l[i] == MARK {
         if !fields_begin(l, i + 1, table, last) {
             return Tail::Bad;
         }
@@ -46,7 +48,7 @@ pub fn tail_at(
         }
         return Tail::Whole;
     }
-    if l[i] != 0xa1 {
+    if l[i] != RECORD {
         return Tail::Bad;
     }
     if !some_offset(table, false, 0, 1) {

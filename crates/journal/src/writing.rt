@@ -1,6 +1,9 @@
 // The bytes of a checkpoint that is to be stored, one at a time: for the set of cells to store, the cells and the
 // commit's fields. The records stand by rising cell number.
 use crate::Commit;
+use crate::MARK;
+use crate::MARK_END;
+use crate::RECORD;
 use cellset::CellSet;
 use cellset::contains;
 use cellset::count;
@@ -41,7 +44,7 @@ fn record_byte(cell: u8, value: u32, k: usize) -> u8
     ensures { λ r. ⌜ r ≡ getD (recordImage (record { cell = cell; value = value })) k 0 ⌝ }
 {
     if k == 0 {
-        return 0xa1;
+        return RECORD;
     }
     if k == 1 {
         return cell;
@@ -57,7 +60,7 @@ fn commit_byte(c: Commit, k: usize) -> u8
     ensures { λ r. ⌜ r ≡ getD (commitImage c) k 0 ⌝ }
 {
     if k == 0 {
-        return 0xa2;
+        return MARK;
     }
     if k < 3 {
         return byte(c.place as u32, k - 1);
@@ -72,7 +75,7 @@ fn commit_byte(c: Commit, k: usize) -> u8
         return byte(c.outputs, k - 9);
     }
     if k == 13 {
-        return 0x5a;
+        return MARK_END;
     }
     0
 }
@@ -94,7 +97,7 @@ fn record_into(buffer: &mut [u8; 1550], at: usize, cell: u8, value: u32)
     requires { ⌜ at + 6 ≤ 1550 ⌝ }
     ensures { λ _. ⌜ now (buffer .exit) ≡ sets (now (buffer .entry)) at (recordImage (record { cell = cell; value = value })) ⌝ }
 {
-    buffer[at] = 0xa1;
+    buffer[at] = RECORD;
     buffer[at + 1] = cell;
     store32(buffer, at + 2, value);
 }
@@ -104,12 +107,12 @@ fn commit_into(buffer: &mut [u8; 1550], at: usize, c: Commit)
     requires { ⌜ at + 14 ≤ 1550 ⌝ }
     ensures { λ _. ⌜ now (buffer .exit) ≡ sets (now (buffer .entry)) at (commitImage c) ⌝ }
 {
-    buffer[at] = 0xa2;
+    buffer[at] = MARK;
     store16(buffer, at + 1, c.place);
     store16(buffer, at + 3, c.exclude);
     store32(buffer, at + 5, c.readings);
     store32(buffer, at + 9, c.outputs);
-    buffer[at + 13] = 0x5a;
+    buffer[at + 13] = MARK_END;
 }
 
 // All bytes of the checkpoint of a set of cells below n, from the buffer's start on; gives their number.

@@ -6,6 +6,8 @@ use crate::quiet::Flow;
 use crate::quiet::quiet;
 use crate::stretch::store_some;
 use instruction::byte_at;
+use instruction::opcodes::EMIT;
+use instruction::opcodes::READ;
 use step::Regs;
 use step::step;
 use word::from_bits;
@@ -71,12 +73,12 @@ fn exit_before(b: Pass, left: u64, n: usize, room: usize, p: &[u8]) -> Exit
         return Exit::Spent;
     }
     let due = due_opcode(b.regs, p);
-    if due == 7 {
+    if due == READ {
         if b.taken == n {
             return Exit::NoReading;
         }
     }
-    if due == 8 {
+    if due == EMIT {
         if b.written == room {
             return Exit::BufferFull;
         }

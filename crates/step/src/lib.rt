@@ -8,10 +8,12 @@ use execution::plain;
 use execution::put_cell;
 use instruction::byte_at;
 use instruction::opcodes::CHECKPOINT;
+use instruction::opcodes::DIV;
 use instruction::opcodes::EMIT;
 use instruction::opcodes::EXCLUDE;
 use instruction::opcodes::READ;
 use journal::Commit;
+use journal::ERASED;
 use journal::writing::fits;
 use journal::writing::image_byte;
 use journal::writing::size;
@@ -53,7 +55,15 @@ pub struct State {
     pub marks: [u8; 256],
 }
 
+// The greatest count of readings or outputs.
 const MOST: u32 = 0xffff_ffff;
+
+// The kinds of stop; 0 is none.
+const ENDED: u32 = 1;
+
+const DIVISOR: u32 = 2;
+
+const COUNT_FULL: u32 = 3;
 
 // How many cells the program has.
 pub fn cell_count(p: &[u8]) -> usize
@@ -68,7 +78,7 @@ fn erase_one(mut r: Regs, journal: &mut [u8]) -> Regs
     ensures { λ q. ⌜ ((xs ms : List ℕ) → machineOf q xs ms (now (journal .exit)) ≡ erasedOf (machineOf r xs ms (now (journal .entry)))) ⌝ }
 {
     let left = r.erase - 1;
-    journal[(r.write + left) as usize] = 0xff;
+    journal[(r.write + left) as usize] = ERASED;
     r.erase = left;
     r
 }
@@ -118,7 +128,7 @@ fn read(mut r: Regs, p: &[u8], cells: &mut [u32; 256], v: i32) -> Regs
     ensures { λ q. ⌜ ((ws ms l : List ℕ) → machineOf q (now (cells .exit)) ms l ≡ executedOf (envOf (now (p .entry)) ws) v (machineOf r (now (cells .entry)) ms l)) ⌝ }
 {
     if r.readings == MOST {
-        return stop(r, 3);
+        return stop(r, COUNT_FULL);
     }
     let at = r.pc as usize;
     put_cell(p, cells, at + 1, to_bits(v));
@@ -133,7 +143,7 @@ fn emit(mut r: Regs) -> Regs
     ensures { λ q. ⌜ q ≡ emitted r ⌝ }
 {
     if r.outputs == MOST {
-        return stop(r, 3);
+        return stop(r, COUNT_FULL);
     }
     r.outputs += 1;
     r.pc = after(r.pc as usize, EMIT);
@@ -194,12 +204,12 @@ fn execute(
         return r;
     }
     match p[at] {
-        6 => stop(r, 2),
-        7 => read(r, p, cells, v),
-        8 => emit(r),
-        13 => exclude_all(r, p, table, sets, marks),
-        14 => begin_save(r, p, marks, journal),
-        _ => stop(r, 1),
+        DIV => stop(r, DIVISOR),
+        READ => read(r, p, cells, v),
+        EMIT => emit(r),
+        EXCLUDE => exclude_all(r, p, table, sets, marks),
+        CHECKPOINT => begin_save(r, p, marks, journal),
+        _ => stop(r, ENDED),
     }
 }
 

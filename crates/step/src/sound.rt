@@ -1,5 +1,6 @@
 // Whether a state is sound: document 01's list, each part as `soundOf` of specs/State.antt has it.
 use crate::Regs;
+use instruction::opcodes::CHECKPOINT;
 use journal::writing::size;
 use marks::stored_cells;
 use program::places::place_at;
@@ -80,7 +81,7 @@ fn saving_sound(r: Regs, p: &[u8], cells: &[u32; 256], marks: &[u8; 256], len: u
     if r.saving == 0 {
         return true;
     }
-    if p[r.pc as usize] != 14 {
+    if p[r.pc as usize] != CHECKPOINT {
         return false;
     }
     if r.erase != 0 {

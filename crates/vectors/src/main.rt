@@ -88,6 +88,35 @@ fn sieve() {
     );
 }
 
+// The heights that CONTOUR reads, five rows of five.
+const HEIGHTS: [i32; 25] = [
+    0,
+    3,
+    7,
+    4,
+    1,
+    2,
+    8,
+    12,
+    9,
+    3,
+    5,
+    11,
+    18,
+    13,
+    6,
+    3,
+    9,
+    14,
+    10,
+    2,
+    1,
+    4,
+    6,
+    3,
+    0,
+];
+
 fn contour() {
     program(
         b"CONTOUR",
@@ -103,33 +132,7 @@ fn contour() {
           \x20\x2A\x0D\x04\x1F\x1F\x25\x0A\x1F\x26\x6C\x00\x0E\x04\x1E\x1E\x25\x0A\x1E\x26\
           \x66\x00\x04\x1D\x1D\x27\x0A\x1D\x28\x60\x00\x02\x20\x00\x00\x00\x00\x0B\x23\x00\
           \x19\x20\x08\x23\x04\x20\x20\x25\x0A\x20\x29\xD9\x00\x01",
-        &[
-            0,
-            3,
-            7,
-            4,
-            1,
-            2,
-            8,
-            12,
-            9,
-            3,
-            5,
-            11,
-            18,
-            13,
-            6,
-            3,
-            9,
-            14,
-            10,
-            2,
-            1,
-            4,
-            6,
-            3,
-            0,
-        ],
+        &HEIGHTS,
     );
 }
 
