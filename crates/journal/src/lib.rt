@@ -21,13 +21,16 @@ ghost use lib.ListN.{length};
 ghost use Rattle.journal.specs.Answer.{factsIn, Blank, Scans};
 ghost use Rattle.journal.specs.Parts.{Content, WalkIs};
 
-// The bytes of the format: the first of a cell's record, the first and the last of a MARK, and an erased one.
+// The first byte of a cell's record.
 pub const RECORD: u8 = 0xa1;
 
+// The first byte of a MARK.
 pub const MARK: u8 = 0xa2;
 
+// The last byte of a MARK, and so of a checkpoint.
 pub const MARK_END: u8 = 0x5a;
 
+// An erased byte.
 pub const ERASED: u8 = 0xff;
 
 // What a checkpoint ends with (document 01: its MARK): the offset after the CHECKPOINT, that of the last

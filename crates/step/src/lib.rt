@@ -58,11 +58,13 @@ pub struct State {
 // The greatest count of readings or outputs.
 const MOST: u32 = 0xffff_ffff;
 
-// The kinds of stop; 0 is none.
+// The kind of stop at END; 0 is not stopped.
 const ENDED: u32 = 1;
 
+// The kind of stop at a division by 0.
 const DIVISOR: u32 = 2;
 
+// The kind of stop at a READ or EMIT whose count is full.
 const COUNT_FULL: u32 = 3;
 
 // How many cells the program has.
