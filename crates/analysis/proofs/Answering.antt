@@ -12,13 +12,14 @@ use Rattle.program.specs.declared.Checked.the-variants as checked
 use Rattle.graph.specs.Tables.{Passed}
 use Rattle.analysis.specs.Analyse.{tooShort, analyseOf, DeadSets, ExcludeSets, Analyses}
 use Rattle.analysis.specs.declared.Analysed.the-variants.{Sets, Refused}
+use Rattle.analysis.proofs.Ruling.{answer-ruled}
 
 -- a refusal is no answer with sets
 apart : {C : Type 0} {n c i m : ℕ} → Refused n ≡ Sets c i m → C
 apart h = absurd (let z : _≡_ {A = ℕ} 0 1 = cc in omega arith)
 
 refusal : (p d s : List ℕ) {n : ℕ} → Refused n ≡ analyseOf p (length d) (length s) → Analyses p d s d s (Refused n)
-refusal p d s h = record { answer = h; refused = λ m e. (refl, refl); filled = λ c i m e. apart e }
+refusal p d s h = record { answer = h; ruled = answer-ruled p (length d) (length s) _ h; refused = λ m e. (refl, refl); filled = λ c i m e. apart e }
 
 pub refused-by-check : (p d s : List ℕ) {n : ℕ} → checked.Refused n ≡ checkOf p → Analyses p d s d s (Refused n)
 unfolding analyseOf
@@ -36,13 +37,15 @@ short-sets p d s h l = refused-short p d s h (rw (lt-ltb (length s) 512 l, or-tr
 
 -- what `fill` asks
 pub passes : (p : List ℕ) {c i m : ℕ} → checked.Program c i m ≡ checkOf p → Passed p
-passes p {c} {i} {m} h = record { cells = c; instructions = i; marks = m; is = h }
+passes p {c} {i} {m} h = record { cells = c; instructions = i; excludes = m; is = h }
 
 pub answered : (p d₀ s₀ d s : List ℕ) {c i m : ℕ} → checked.Program c i m ≡ checkOf p → 2048 ≤ length d₀ → 512 ≤ length s₀
     → DeadSets p d₀ d × ExcludeSets p s₀ s → Analyses p d₀ s₀ d s (Sets c i m)
 unfolding analyseOf
-answered p d₀ s₀ d s h long-d long-s both = record {
-  answer = rw (← h, le-ltb (length d₀) 2048 long-d, le-ltb (length s₀) 512 long-s);
-  refused = λ n e. apart (sym e);
-  filled = λ c i m e. both;
-}
+answered p d₀ s₀ d s {c} {i} {m} h long-d long-s both =
+    let a : Sets c i m ≡ analyseOf p (length d₀) (length s₀) = rw (← h, le-ltb (length d₀) 2048 long-d, le-ltb (length s₀) 512 long-s) in record {
+      answer = a;
+      ruled = answer-ruled p (length d₀) (length s₀) _ a;
+      refused = λ n e. apart (sym e);
+      filled = λ c i m e. both;
+    }

@@ -20,6 +20,7 @@ use Rattle.analysis.specs.declared.Analysed.the-variants.{Sets}
 use Rattle.analysis.specs.Rows.{Question, deadBefore, deOf, roOf, In}
 use Rattle.analysis.proofs.Certificates.{allOf, all-at}
 use Rattle.analysis.proofs.Fixed.{sets-accepted}
+use Rattle.analysis.proofs.Ruling.{answer-ruled}
 use Rattle.analysis.proofs.Table.{shownIn, shown-in, Out, shownOut, shown-out, eachBelow, below-at}
 
 -- ---- a set
@@ -69,8 +70,8 @@ exclude-right p s h e is =
     and-both _ _ (rw (x .1) at (all-at (excludeRight p s) (starts p) e h (x .0)))
 
 -- then analyse can leave these words in buffers that held them before
-pub analyses-by : (p d s : List ℕ) {cells instructions marks : ℕ} → Sets cells instructions marks ≡ analyseOf p (length d) (length s)
-    → wordsRight p d s ≡ true → Analyses p d s d s (Sets cells instructions marks)
+pub analyses-by : (p d s : List ℕ) {cells instructions excludes : ℕ} → Sets cells instructions excludes ≡ analyseOf p (length d) (length s)
+    → wordsRight p d s ≡ true → Analyses p d s d s (Sets cells instructions excludes)
 analyses-by p d s answer h =
     let a = sets-accepted p (length d) (length s) answer in
     let x = and-both (ltb (cellsOf p) 257) _ h in
@@ -80,6 +81,7 @@ analyses-by p d s answer h =
     let mark = exclude-right p s (y .1) in
     record {
       answer = answer;
+      ruled = answer-ruled p (length d) (length s) _ answer;
       refused = λ n r. absurd (let z : _≡_ {A = ℕ} 0 1 = cc in omega arith);
       filled = λ c n e r. (
         record {

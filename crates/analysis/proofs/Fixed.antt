@@ -120,20 +120,20 @@ sets-fixed {p} a {s₀} {s} {s′} x y fits fits′ =
 -- ---- the whole call
 
 -- sets are answered only for a program that check passes
-passes : {cells instructions marks : ℕ} (k : Checked) (short : Bool) → Sets cells instructions marks ≡ analysedFrom k short
-    → checked.Program cells instructions marks ≡ k
+passes : {cells instructions excludes : ℕ} (k : Checked) (short : Bool) → Sets cells instructions excludes ≡ analysedFrom k short
+    → checked.Program cells instructions excludes ≡ k
 passes (checked.Refused n) short h = absurd (let z : _≡_ {A = ℕ} 0 1 = cc in omega arith)
-passes (checked.Program cells instructions marks) true h = absurd (let z : _≡_ {A = ℕ} 0 1 = cc in omega arith)
-passes (checked.Program cells instructions marks) false h = cc
+passes (checked.Program cells instructions excludes) true h = absurd (let z : _≡_ {A = ℕ} 0 1 = cc in omega arith)
+passes (checked.Program cells instructions excludes) false h = cc
 
 -- those of a program with these numbers
-pub sets-accepted : (p : List ℕ) (dead sets : ℕ) {cells instructions marks : ℕ} → Sets cells instructions marks ≡ analyseOf p dead sets
-    → Accepted p cells instructions marks
+pub sets-accepted : (p : List ℕ) (dead sets : ℕ) {cells instructions excludes : ℕ} → Sets cells instructions excludes ≡ analyseOf p dead sets
+    → Accepted p cells instructions excludes
 unfolding analyseOf
 sets-accepted p dead sets h = accepted p (passes (checkOf p) _ h)
 
-pub analysed-accepted : {p d₀ s₀ d s : List ℕ} {cells instructions marks : ℕ} → Analyses p d₀ s₀ d s (Sets cells instructions marks)
-    → Accepted p cells instructions marks
+pub analysed-accepted : {p d₀ s₀ d s : List ℕ} {cells instructions excludes : ℕ} → Analyses p d₀ s₀ d s (Sets cells instructions excludes)
+    → Accepted p cells instructions excludes
 analysed-accepted {p} {d₀} {s₀} x = sets-accepted p (length d₀) (length s₀) (x .answer)
 
 module _ {p d₀ s₀ d s d′ s′ : List ℕ} (fits-d : Words d) (fits-s : Words s) (fits-d′ : Words d′) (fits-s′ : Words s′) where
@@ -142,9 +142,9 @@ module _ {p d₀ s₀ d s d′ s′ : List ℕ} (fits-d : Words d) (fits-s : Wor
       let a = x .refused n refl in
       let b = y .refused n refl in
       (a .0 ∙ sym (b .0), a .1 ∙ sym (b .1))
-  same-buffers (Sets cells instructions marks) x y =
-      let a = x .filled cells instructions marks refl in
-      let b = y .filled cells instructions marks refl in
+  same-buffers (Sets cells instructions excludes) x y =
+      let a = x .filled cells instructions excludes refl in
+      let b = y .filled cells instructions excludes refl in
       (dead-fixed (a .0) (b .0) fits-d fits-d′, sets-fixed (analysed-accepted x) (a .1) (b .1) fits-s fits-s′)
 
   pub analyse-fixed : {r r′ : Analysed} → Analyses p d₀ s₀ d s r → Analyses p d₀ s₀ d′ s′ r′ → (r ≡ r′) × (d ≡ d′) × (s ≡ s′)

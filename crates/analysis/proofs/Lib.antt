@@ -14,3 +14,4 @@ pub mod Searching
 pub mod Looping
 pub mod Placing
 pub mod Answering
+mod Ruling

@@ -100,11 +100,11 @@ shown-out p (roOf e) c h =
 
 -- check passes the program
 abbrev passes : Checked → Bool
-passes (Program cells instructions marks) = true
+passes (Program cells instructions excludes) = true
 passes (Refused n) = false
 
 passed : (p : List ℕ) (k : Checked) → k ≡ checkOf p → passes k ≡ true → Passed p
-passed p (Program cells instructions marks) e h = record { cells = cells; instructions = instructions; marks = marks; is = e }
+passed p (Program cells instructions excludes) e h = record { cells = cells; instructions = instructions; excludes = excludes; is = e }
 passed p (Refused n) e h = clash false h refl
 
 -- each number below n passes it

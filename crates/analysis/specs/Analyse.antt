@@ -4,12 +4,14 @@ use Prim.Native.Nat.{ℕ, _+_, _*_, _≤_, _<_}
 use mathlib.Core.Path.{_≡_}
 use mathlib.Core.List.{List, [], _∷_}
 use mathlib.Core.Bool.{Bool, true, cond, _||_}
+use mathlib.Core.Logic.{_⊎_}
 use lib.ListN.{length, getD}
 use lib.Dec.{ltb}
 use Rattle.cellset.specs.Bits.{member}
 use Rattle.instruction.specs.Bytes.{cellsOf}
 use Rattle.program.specs.Starts.{starts, excludes}
 use Rattle.program.specs.Check.{Answer, checkOf}
+use Rattle.program.specs.Grounds.{Allowed, Counts, CallGround}
 use Rattle.program.specs.Places.{isExclude, excludeNumber}
 use Rattle.program.specs.declared.Checked.{Checked}
 use Rattle.program.specs.declared.Checked.the-variants as checked
@@ -53,8 +55,14 @@ pub record ExcludeSets (p s₀ s : List ℕ) : Type 0 where
   pub no-ro : (e c : ℕ) → isExclude p e ≡ true → c < cellsOf p → member s (8 * excludeNumber p e + 4) c ≡ 0 → Written p e c
   pub rest : (k : ℕ) → 8 * excludes p (starts p) ≤ k → getD s k 0 ≡ getD s₀ k 0
 
+-- the grounds of its refusals, from the rows of document 01's table: 1 to 8 check's, 9 "a word buffer too short"; it has no other
+abbrev pub Ground : List ℕ → (dead sets : ℕ) → ℕ → Type 0
+Ground p dead sets = CallGround p ((dead < 2048) ⊎ (sets < 512)) (λ n. ⊥)
+
 -- what analyse promises of its answer and of the buffers, from d₀ and s₀ as they were lent: "a refusal alters nothing lent"
 pub record Analyses (p d₀ s₀ d s : List ℕ) (r : Analysed) : Type 0 where
   pub answer : r ≡ analyseOf p (length d₀) (length s₀)
+  -- in 01's terms the one that the grounds allow, with check's three numbers
+  pub ruled : Allowed (Ground p (length d₀) (length s₀)) (Counts p) (answerOf r)
   pub refused : (n : ℕ) → r ≡ Refused n → (d ≡ d₀) × (s ≡ s₀)
-  pub filled : (cells instructions marks : ℕ) → r ≡ Sets cells instructions marks → DeadSets p d₀ d × ExcludeSets p s₀ s
+  pub filled : (cells instructions excludes : ℕ) → r ≡ Sets cells instructions excludes → DeadSets p d₀ d × ExcludeSets p s₀ s

@@ -29,8 +29,8 @@ startOf p i = getD (starts p) i 0
 pub record Passed (p : List ℕ) : Type 0 where
   pub cells : ℕ
   pub instructions : ℕ
-  pub marks : ℕ
-  pub is : Program cells instructions marks ≡ checkOf p
+  pub excludes : ℕ
+  pub is : Program cells instructions excludes ≡ checkOf p
 
 -- the offset of each instruction
 abbrev pub Offsets : List ℕ → List ℕ → Type 0

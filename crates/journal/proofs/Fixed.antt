@@ -1,19 +1,20 @@
--- Laws of the answer of `scan`. A journal has one answer (`scan-fixed`): damaged where the chip is damaged (`damaged-found`), and what the engine leaves reads
--- back as exactly its checkpoints (`shape-found`), an erased chip as none (`erased-found`). What is found lies within the chip
--- (`within`). A program's own table holds the program's facts (`facts-same`).
+-- Laws of the answer of `scan`. A journal has one answer (`scan-fixed`): too long where it is (`long-found`), else damaged where the chip is damaged
+-- (`damaged-found`), and what the engine leaves reads back as exactly its checkpoints (`shape-found`), an erased chip as none (`erased-found`). What is found
+-- lies within the chip (`within`). A program's own table holds the program's facts (`facts-same`).
 -- Assumes nothing.
 use mathlib.Core.Path.{_≡_, refl, sym, _∙_, ap, subst}
 use mathlib.Core.Bool.{Bool, true, false, cond}
-use mathlib.Core.List.{List, _++_}
+use mathlib.Core.List.{List, [], _∷_, _++_}
 use mathlib.Core.Logic.{⊎-elim}
 use Prim.Native.Nat.{ℕ, _+_, _≤_, _<_}
 use native.Mathlib.Omega.{arith}
-use lib.ListN.{length, getD, replicate, length-append, List·getD-eq-default}
+use lib.ListN.{length, getD, replicate, length-append, length-replicate, List·getD-eq-default}
 use lib.Seq.{ext-getD}
 use lib.Dec.{ltb}
 use borrow.Author.Tests.{lt-ltb}
 use Rattle.cellset.proofs.Bits.{le-or-lt}
 use Rattle.instruction.specs.Bytes.{cellsOf}
+use Rattle.program.specs.Grounds.{Allowed, granted, denied}
 use Rattle.program.specs.declared.places.Place.{Place}
 use Rattle.program.specs.Places.{isExclude, excludeNumber, entryAt, readPlace, afterCheckpoint, Places}
 use Rattle.program.proofs.PlaceLaws.{place-read}
@@ -22,7 +23,7 @@ use Rattle.journal.specs.declared.Scanned.{Scanned}
 use Rattle.journal.specs.declared.Scanned.the-variants as scanned
 use Rattle.journal.specs.Format.{Checkpoint, images}
 use Rattle.journal.specs.Reading.{Facts, factsOf, first, lastOf, Torn, Damaged, savedValue}
-use Rattle.journal.specs.Answer.{factsIn, Taken, Blank, Scans}
+use Rattle.journal.specs.Answer.{factsIn, Taken, Blank, Scans, answerOf, Ground, size, damaged, Read, reads, ScanIs}
 use Rattle.journal.proofs.Back.{Shape, erased-shape, one-reading, shape-reads, not-damaged}
 
 -- ---- the facts of a program
@@ -45,19 +46,27 @@ facts-same p table h = λ i. record { cells = cellsOf p; place = λ t. place t i
 -- ---- one answer
 
 -- a damaged chip has no reading that is accepted
-apart : {F : Facts} {chip : List ℕ} {end torn : ℕ} {last : Commit} {values : List ℕ} → Damaged F chip → ¬ Taken F chip end torn last values
+pub apart : {F : Facts} {chip : List ℕ} {end torn : ℕ} {last : Commit} {values : List ℕ} → Damaged F chip → ¬ Taken F chip end torn last values
 apart {F} d t =
     let o = one-reading (t .reading) (d .reading) in
     let g = subst (λ (js : List Checkpoint). Torn F (lastOf first js) (t .rest)) (o .0) (t .accepted) in
     d .refused (subst (λ (q : List ℕ). Torn F (lastOf first (d .saves)) q) (o .1) g)
 
+-- all 0 in both
+blank-same : {v v′ : List ℕ} → Blank v → Blank v′ → v ≡ v′
+blank-same {v} {v′} b b′ = ext-getD 0 v v′ (b .cells ∙ sym (b′ .cells)) (λ c _. b .values-are c ∙ sym (b′ .values-are c))
+
 -- a journal's answer and its values are fixed
 pub scan-fixed : (F : Facts) (chip : List ℕ) (a a′ : Scanned) (v v′ : List ℕ) → Scans F chip a v → Scans F chip a′ v′ → (a ≡ a′) × (v ≡ v′)
-scan-fixed F chip scanned.Damaged scanned.Damaged v v′ x y =
-    (refl, ext-getD 0 v v′ (x .1 .cells ∙ sym (y .1 .cells)) (λ c _. x .1 .values-are c ∙ sym (y .1 .values-are c)))
-scan-fixed F chip scanned.Damaged (scanned.Found end torn last) v v′ x y = absurd (apart (x .0) y)
-scan-fixed F chip (scanned.Found end torn last) scanned.Damaged v v′ x y = absurd (apart (y .0) x)
-scan-fixed F chip (scanned.Found end torn last) (scanned.Found end′ torn′ last′) v v′ x y =
+scan-fixed F chip scanned.TooLong scanned.TooLong v v′ x y = (refl, blank-same (x .1) (y .1))
+scan-fixed F chip scanned.TooLong scanned.Damaged v v′ x y = absurd (omega (arith, x .0, y .0))
+scan-fixed F chip scanned.TooLong (scanned.Found end torn last) v v′ x y = absurd (omega (arith, x .0, y .0))
+scan-fixed F chip scanned.Damaged scanned.TooLong v v′ x y = absurd (omega (arith, x .0, y .0))
+scan-fixed F chip scanned.Damaged scanned.Damaged v v′ x y = (refl, blank-same (x .2) (y .2))
+scan-fixed F chip scanned.Damaged (scanned.Found end torn last) v v′ x y = absurd (apart (x .1) (y .1))
+scan-fixed F chip (scanned.Found end torn last) scanned.TooLong v v′ x y = absurd (omega (arith, x .0, y .0))
+scan-fixed F chip (scanned.Found end torn last) scanned.Damaged v v′ x y = absurd (apart (y .1) (x .1))
+scan-fixed F chip (scanned.Found end torn last) (scanned.Found end′ torn′ last′) v v′ (_, x) (_, y) =
     let o = one-reading (x .reading) (y .reading) in
     let e : end ≡ end′ = x .end-is ∙ ap (λ (js : List Checkpoint). length (images js)) (o .0) ∙ sym (y .end-is) in
     let t : torn ≡ torn′ = x .torn-is ∙ ap length (o .1) ∙ sym (y .torn-is) in
@@ -68,10 +77,47 @@ scan-fixed F chip (scanned.Found end torn last) (scanned.Found end′ torn′ la
           x .values-are c k ∙ ap (λ (js : List Checkpoint). savedValue c js 0) (o .0) ∙ sym (y .values-are c k),
     )
 
--- a damaged chip is answered so; that no other is, is `Scans` itself
-pub damaged-found : {F : Facts} {chip : List ℕ} (a : Scanned) (v : List ℕ) → Damaged F chip → Scans F chip a v → a ≡ scanned.Damaged
-damaged-found scanned.Damaged v d x = refl
-damaged-found (scanned.Found end torn last) v d x = absurd (apart d x)
+-- a chip that is too long is answered so, damaged or not; that no other is, is `Scans` itself
+pub long-found : (F : Facts) (chip : List ℕ) (a : Scanned) (v : List ℕ) → 65536 < length chip → Scans F chip a v → a ≡ scanned.TooLong
+long-found F chip scanned.TooLong v l x = refl
+long-found F chip scanned.Damaged v l x = absurd (omega (arith, x .0))
+long-found F chip (scanned.Found end torn last) v l x = absurd (omega (arith, x .0))
+
+-- likewise another that is damaged
+pub damaged-found : {F : Facts} {chip : List ℕ} (a : Scanned) (v : List ℕ) → length chip ≤ 65536 → Damaged F chip → Scans F chip a v → a ≡ scanned.Damaged
+damaged-found scanned.TooLong v m d x = absurd (omega (arith, x .0))
+damaged-found scanned.Damaged v m d x = refl
+damaged-found (scanned.Found end torn last) v m d x = absurd (apart d (x .1))
+
+-- ---- the answer in 01's terms
+
+-- no ground is below 11, and of a chip that is not too long none is below 12
+below-11 : {F : Facts} {chip : List ℕ} (m : ℕ) → m < 11 → ¬ Ground F chip m
+below-11 m l (size h) = omega arith
+below-11 m l (damaged d) = omega arith
+
+below-12 : {F : Facts} {chip : List ℕ} → length chip ≤ 65536 → (m : ℕ) → m < 12 → ¬ Ground F chip m
+below-12 n m l (size h) = omega arith
+below-12 n m l (damaged d) = omega arith
+
+-- an accepted chip has none
+unground : {F : Facts} {chip : List ℕ} {end torn : ℕ} {last : Commit} {values : List ℕ} → length chip ≤ 65536 → Taken F chip end torn last values
+    → (m : ℕ) → ¬ Ground F chip m
+unground n t m (size h) = omega arith
+unground n t m (damaged d) = apart d t
+
+-- the answer is the one that the grounds allow
+pub scan-ruled : (F : Facts) (chip : List ℕ) (a : Scanned) (v : List ℕ) → Scans F chip a v → Allowed (Ground F chip) (Read F chip) (answerOf a)
+scan-ruled F chip scanned.TooLong v x = denied (size (x .0)) below-11
+scan-ruled F chip scanned.Damaged v x = denied (damaged (x .1)) (below-12 (x .0))
+scan-ruled F chip (scanned.Found end torn last) v (n, x) =
+    let vs : Read F chip (end ∷ torn ∷ last .place ∷ last .exclude ∷ last .readings ∷ last .outputs ∷ []) =
+    rw (x .end-is, x .torn-is, x .last-is) (reads (x .saves) (x .rest) (x .reading) (x .accepted)) in
+    granted (unground n x) vs
+
+-- so this is what scan promises
+pub scan-is : (F : Facts) (chip : List ℕ) (a : Scanned) (v : List ℕ) → Scans F chip a v → ScanIs F chip a v
+scan-is F chip a v x = record { scans = x; ruled = scan-ruled F chip a v x }
 
 -- the whole saves and the torn bytes are part of the chip
 pub within : {F : Facts} {chip : List ℕ} {end torn : ℕ} {last : Commit} {values : List ℕ} → Taken F chip end torn last values → end + torn ≤ length chip
@@ -89,10 +135,11 @@ within t =
 -- ---- what the engine leaves
 
 -- whole checkpoints, then nothing or a part of one, then FF are answered with those checkpoints, and with no more torn bytes than there are
-pub shape-found : {F : Facts} {chip : List ℕ} {js : List Checkpoint} {q : List ℕ} (a : Scanned) (v : List ℕ) → Shape F chip js q → Scans F chip a v
-    → (k : ℕ) × (k ≤ length q) × (a ≡ scanned.Found (length (images js)) k (lastOf first js)) × ((c : ℕ) → c < 256 → getD v c 0 ≡ savedValue c js 0)
-shape-found scanned.Damaged v s x = absurd (not-damaged s (x .0))
-shape-found {js = js} (scanned.Found end torn last) v s x =
+pub shape-found : {F : Facts} {chip : List ℕ} {js : List Checkpoint} {q : List ℕ} (a : Scanned) (v : List ℕ) → length chip ≤ 65536 → Shape F chip js q
+    → Scans F chip a v → (k : ℕ) × (k ≤ length q) × (a ≡ scanned.Found (length (images js)) k (lastOf first js)) × ((c : ℕ) → c < 256 → getD v c 0 ≡ savedValue c js 0)
+shape-found scanned.TooLong v m s x = absurd (omega (arith, x .0))
+shape-found scanned.Damaged v m s x = absurd (not-damaged s (x .1))
+shape-found {js = js} (scanned.Found end torn last) v m s (_, x) =
     let r = shape-reads s in
     let o = one-reading (x .reading) (r .reading) in
     let e : end ≡ length (images js) = x .end-is ∙ ap (λ (l : List Checkpoint). length (images l)) (o .0) in
@@ -106,16 +153,17 @@ shape-found {js = js} (scanned.Found end torn last) v s x =
 
 -- an answer has 256 values
 value-count : (F : Facts) (chip : List ℕ) (a : Scanned) (v : List ℕ) → Scans F chip a v → length v ≡ 256
-value-count F chip scanned.Damaged v x = x .1 .cells
-value-count F chip (scanned.Found end torn last) v x = x .cells
+value-count F chip scanned.TooLong v x = x .1 .cells
+value-count F chip scanned.Damaged v x = x .2 .cells
+value-count F chip (scanned.Found end torn last) v x = x .1 .cells
 
--- an erased chip of any length has no checkpoint
-pub erased-found : (F : Facts) (n : ℕ) (a : Scanned) (v : List ℕ) → Scans F (replicate n 0xFF) a v → (a ≡ scanned.Found 0 0 first) × Blank v
+-- an erased chip that is not too long has no checkpoint
+pub erased-found : (F : Facts) (n : ℕ) (a : Scanned) (v : List ℕ) → n ≤ 65536 → Scans F (replicate n 0xFF) a v → (a ≡ scanned.Found 0 0 first) × Blank v
 unfolding images lastOf savedValue
-erased-found F n a v x =
-    let f = shape-found a v (erased-shape n) x in
+erased-found F n a v m x =
+    let f = shape-found a v (omega (arith, length-replicate {A = ℕ} n 0xFF)) (erased-shape n) x in
     let z : f .0 ≡ 0 = omega (arith, f .1) in
-    let size = value-count F (replicate n 0xFF) a v x in (
+    let count = value-count F (replicate n 0xFF) a v x in (
       f .2 ∙ ap (λ (k : ℕ). scanned.Found 0 k first) z,
-      record { cells = size; values-are = λ c. ⊎-elim (λ (h : 256 ≤ c). List·getD-eq-default v 0 (omega arith)) (f .3 c) (le-or-lt 256 c) },
+      record { cells = count; values-are = λ c. ⊎-elim (λ (h : 256 ≤ c). List·getD-eq-default v 0 (omega arith)) (f .3 c) (le-or-lt 256 c) },
     )

@@ -1,14 +1,15 @@
 -- What is found in a journal without its trailing FF bytes is found in the journal: `walk` over what `content` keeps has the answer of `scan` (`joined`).
 -- Assumes nothing.
-use mathlib.Core.Path.{sym, _∙_, ap}
+use mathlib.Core.Path.{_≡_, sym, _∙_, ap, subst}
 use mathlib.Core.List.{List, [], _∷_, _++_, append-assoc}
-use Prim.Native.Nat.{ℕ}
-use lib.ListN.{take, replicate}
+use Prim.Native.Nat.{ℕ, _≤_, _<_}
+use lib.ListN.{length, take, replicate}
+use Rattle.journal.specs.declared.Contents.{Contents}
 use Rattle.journal.specs.declared.Scanned.{Scanned}
 use Rattle.journal.specs.declared.Scanned.the-variants as scanned
 use Rattle.journal.specs.Format.{Checkpoint, images}
 use Rattle.journal.specs.Reading.{Facts, Reading}
-use Rattle.journal.specs.Answer.{Scans}
+use Rattle.journal.specs.Answer.{Blank, Scans}
 use Rattle.journal.specs.Parts.{Content, Stops, WalkIs}
 use Rattle.journal.proofs.Torn.{whole-within}
 
@@ -25,19 +26,30 @@ reading-of {js = js} {q = q} c s =
     }
 
 -- so the answer is the journal's
-pub joined : (F : Facts) (a : Scanned) (values : List ℕ) {chip : List ℕ} {t : ℕ} → Content chip t → WalkIs F (take t chip) a values → Scans F chip a values
-joined F scanned.Damaged values c w = (
+pub joined : (F : Facts) (a : Scanned) (values : List ℕ) {chip : List ℕ} {t : ℕ} → length chip ≤ 65536 → Content chip t → WalkIs F (take t chip) a values
+    → Scans F chip a values
+joined F scanned.TooLong values m c w = absurd w
+joined F scanned.Damaged values m c w = (
+  m,
   record { saves = w .0 .saves; rest = w .0 .rest; reading = reading-of c (w .0 .stops); refused = w .0 .refused },
   w .1,
 )
-joined F (scanned.Found end torn last) values c w = record {
-  saves = w .saves;
-  rest = w .rest;
-  reading = reading-of c (w .stops);
-  accepted = w .accepted;
-  end-is = w .end-is;
-  torn-is = w .torn-is;
-  last-is = w .last-is;
-  cells = w .cells;
-  values-are = w .values-are;
-}
+joined F (scanned.Found end torn last) values m c w = (
+  m,
+  record {
+    saves = w .saves;
+    rest = w .rest;
+    reading = reading-of c (w .stops);
+    accepted = w .accepted;
+    end-is = w .end-is;
+    torn-is = w .torn-is;
+    last-is = w .last-is;
+    cells = w .cells;
+    values-are = w .values-are;
+  },
+)
+
+-- a journal that is too long is not read
+pub long-scanned : (F : Facts) (chip : List ℕ) (r : Contents) → 65536 < length chip → (r .answer ≡ scanned.TooLong) × Blank (r .values)
+    → Scans F chip (r .answer) (r .values)
+long-scanned F chip r l h = subst (λ (a : Scanned). Scans F chip a (r .values)) (sym (h .0)) (l, h .1)

@@ -1,15 +1,16 @@
 -- What `scan` answers: document 01, "Recovery reads saves from byte 0."
 -- Assumes nothing.
-use Prim.Native.Nat.{ℕ, _<_}
+use Prim.Native.Nat.{ℕ, _≤_, _<_}
 use mathlib.Core.Path.{_≡_}
 use mathlib.Core.List.{List, [], _∷_}
 use lib.ListN.{length, getD}
 use lib.Dec.{ltb}
 use Rattle.program.specs.Check.{Answer}
+use Rattle.program.specs.Grounds.{Allowed}
 use Rattle.program.specs.Places.{entryAt, readPlace}
 use Rattle.journal.specs.declared.Commit.{Commit}
 use Rattle.journal.specs.declared.Scanned.{Scanned}
-use Rattle.journal.specs.declared.Scanned.the-variants.{Damaged, Found}
+use Rattle.journal.specs.declared.Scanned.the-variants.{TooLong, Damaged, Found}
 use Rattle.journal.specs.Format.{Checkpoint, images}
 use Rattle.journal.specs.Reading
 use Rattle.journal.specs.Reading.{Facts, first, Reading, Torn, lastOf, savedValue}
@@ -31,18 +32,35 @@ pub record Taken (F : Facts) (chip : List ℕ) (end torn : ℕ) (last : Commit) 
   pub cells : length values ≡ 256
   pub values-are : (c : ℕ) → c < 256 → getD values c 0 ≡ savedValue c saves 0
 
--- all 0: what a damaged chip gives
+-- all 0: what a chip that is too long or damaged gives
 pub record Blank (values : List ℕ) : Type 0 where
   pub cells : length values ≡ 256
   pub values-are : (c : ℕ) → getD values c 0 ≡ 0
 
--- the answer and the values are the chip's
+-- the answer and the values are the chip's: "A chip is 0 to 65,536 bytes"
 abbrev pub Scans : Facts → List ℕ → Scanned → List ℕ → Type 0
-Scans F chip Damaged values = Reading.Damaged F chip × Blank values
-Scans F chip (Found end torn last) values = Taken F chip end torn last values
+Scans F chip TooLong values = (65536 < length chip) × Blank values
+Scans F chip Damaged values = (length chip ≤ 65536) × Reading.Damaged F chip × Blank values
+Scans F chip (Found end torn last) values = (length chip ≤ 65536) × Taken F chip end torn last values
 
--- 01's number for an answer, 0 where it is accepted, and its values: "12, chip damaged"
+-- 01's number for an answer, 0 where it is accepted, and its values
 abbrev pub answerOf : Scanned → Answer
+answerOf TooLong = record { number = 11; values = [] }
 answerOf Damaged = record { number = 12; values = [] }
 answerOf (Found end torn last) =
     record { number = 0; values = end ∷ torn ∷ last .place ∷ last .exclude ∷ last .readings ∷ last .outputs ∷ [] }
+
+-- the grounds of scan's refusals, from document 01's table: 11 "chip over 65,536 bytes", 12 "chip damaged"
+pub data Ground (F : Facts) (chip : List ℕ) : ℕ → Type 0 where
+  size : 65536 < length chip → Ground F chip 11
+  damaged : Reading.Damaged F chip → Ground F chip 12
+
+-- the values of an accepted chip: where its whole saves end, how many torn bytes follow, and the last mark's offsets and counts, "or offset 1 and zeros"
+pub data Read (F : Facts) (chip : List ℕ) : List ℕ → Type 0 where
+  reads : (saves : List Checkpoint) (rest : List ℕ) → Reading F chip saves rest → Torn F (lastOf first saves) rest
+      → Read F chip (length (images saves) ∷ length rest ∷ lastOf first saves .place ∷ lastOf first saves .exclude ∷ lastOf first saves .readings ∷ lastOf first saves .outputs ∷ [])
+
+-- what scan promises of its answer and of the values: they are the chip's, and in 01's terms the answer is the one that the grounds allow, in rising order
+pub record ScanIs (F : Facts) (chip : List ℕ) (a : Scanned) (values : List ℕ) : Type 0 where
+  pub scans : Scans F chip a values
+  pub ruled : Allowed (Ground F chip) (Read F chip) (answerOf a)

@@ -159,7 +159,8 @@ pub record Accepts (F : Facts) (l : List ℕ) (end torn : ℕ) (last : Commit) (
   pub cells : length values ≡ 256
   pub values-are : (c : ℕ) → c < 256 → getD values c 0 ≡ savedValue c saves 0
 
--- what is found in a journal without its trailing FF bytes
+-- what is found in a journal without its trailing FF bytes, which is not too long
 abbrev pub WalkIs : Facts → List ℕ → Scanned → List ℕ → Type 0
+WalkIs F l scanned.TooLong values = ⊥
 WalkIs F l scanned.Damaged values = Refuses F l × Blank values
 WalkIs F l (scanned.Found end torn last) values = Accepts F l end torn last values

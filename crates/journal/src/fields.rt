@@ -78,11 +78,50 @@ fn count_begins(l: &[u8], i: usize, least: u32) -> bool
     least <= from_bytes(b0, b1, b2, b3)
 }
 
+// Whether the whole offset at i is such an offset.
+fn offset_whole(l: &[u8], i: usize, table: &[u8; 2048], excludes: bool) -> bool
+    requires { ⌜ (i ≤ 100000) × (i + 2 ≤ length (now l)) ⌝ }
+    ensures { λ r. ⌜ ((n : ℕ) → Decides (Number (λ t. offsetIn (factsIn n (now (table .entry))) excludes t ≡ true) 2 (drop i (now (l .entry)))) r) ⌝ }
+{
+    offset_is(table, excludes, load16(l, i) as usize)
+}
+
+// Whether the whole count at i is not below `least`.
+fn count_whole(l: &[u8], i: usize, least: u32) -> bool
+    requires { ⌜ (i ≤ 100000) × (i + 4 ≤ length (now l)) ⌝ }
+    ensures { λ r. ⌜ Decides (Number (λ x. least ≤ x) 4 (drop i (now (l .entry)))) r ⌝ }
+{
+    least <= load32(l, i)
+}
+
+// The same as `fields_begin` where all the bytes are there, so that no field asks whether it is cut.
+fn fields_whole(l: &[u8], i: usize, table: &[u8; 2048], last: Commit) -> bool
+    requires { ⌜ (i ≤ 90000) × (i + 13 ≤ length (now l)) ⌝ }
+    ensures { λ r. ⌜ ((n : ℕ) → Decides (Fields (factsIn n (now (table .entry))) last (drop i (now (l .entry)))) r) ⌝ }
+{
+    if !offset_whole(l, i, table, false) {
+        return false;
+    }
+    if !offset_whole(l, i + 2, table, true) {
+        return false;
+    }
+    if !count_whole(l, i + 4, last.readings) {
+        return false;
+    }
+    if !count_whole(l, i + 8, last.outputs) {
+        return false;
+    }
+    l[i + 12] == MARK_END
+}
+
 // Whether the bytes at i begin the fields and the last byte of a commit that is sound after `last`.
 pub fn fields_begin(l: &[u8], i: usize, table: &[u8; 2048], last: Commit) -> bool
     requires { ⌜ i ≤ 90000 ⌝ }
     ensures { λ r. ⌜ ((n : ℕ) → Decides (Fields (factsIn n (now (table .entry))) last (drop i (now (l .entry)))) r) ⌝ }
 {
+    if i + 13 <= l.len() {
+        return fields_whole(l, i, table, last);
+    }
     if !offset_begins(l, i, table, false) {
         return false;
     }
@@ -95,10 +134,7 @@ pub fn fields_begin(l: &[u8], i: usize, table: &[u8; 2048], last: Commit) -> boo
     if !count_begins(l, i + 8, last.outputs) {
         return false;
     }
-    if l.len() <= i + 12 {
-        return true;
-    }
-    l[i + 12] == MARK_END
+    true
 }
 
 // The commit whose fields stand at i.

@@ -16,9 +16,9 @@ use records::restore;
 use tail::Tail;
 use tail::tail_at;
 ghost use mathlib.Core.Path.{_≡_};
-ghost use Prim.Native.Nat.{_≤_};
+ghost use Prim.Native.Nat.{_+_, _≤_};
 ghost use lib.ListN.{length};
-ghost use Rattle.journal.specs.Answer.{factsIn, Blank, Scans};
+ghost use Rattle.journal.specs.Answer.{factsIn, Blank, ScanIs};
 ghost use Rattle.journal.specs.Parts.{Content, WalkIs};
 
 // The first byte of a cell's record.
@@ -42,9 +42,10 @@ pub struct Commit {
     pub outputs: u32,
 }
 
-// What a journal reads as: damaged; or where its whole checkpoints end, how many torn bytes follow, and the
-// last commit, or offset 1 and zeros if there is none.
+// What a journal reads as: longer than a chip can be; damaged; or where its whole checkpoints end, how many
+// torn bytes follow, and the last commit, or offset 1 and zeros if there is none.
 pub enum Scanned {
+    TooLong,
     Damaged,
     Found {
         end: usize,
@@ -53,7 +54,7 @@ pub enum Scanned {
     },
 }
 
-// The answer, and each cell's last saved value, or 0; all 0 where the journal is damaged.
+// The answer, and each cell's last saved value, or 0; all 0 where the journal is refused.
 pub struct Contents {
     pub answer: Scanned,
     pub values: [u32; 256],
@@ -73,11 +74,12 @@ fn content(l: &[u8]) -> usize
     r
 }
 
-fn damaged() -> Contents
-    ensures { λ r. ⌜ (r .answer ≡ Scanned.Damaged) × Blank (r .values) ⌝ }
+// What a refused journal gives: the answer, and no values.
+fn refused(answer: Scanned) -> Contents
+    ensures { λ r. ⌜ (r .answer ≡ answer) × Blank (r .values) ⌝ }
 {
     Contents {
-        answer: Scanned::Damaged,
+        answer,
         values: [0u32; 256],
     }
 }
@@ -118,18 +120,21 @@ fn walk(l: &[u8], n: usize, table: &[u8; 2048]) -> Contents
                 return found(at, l.len() - at, last, values);
             }
             Tail::Bad => {
-                return damaged();
+                return refused(Scanned::Damaged);
             }
         }
     }
     found(at, 0, last, values)
 }
 
-// Reads a journal, for a program of n cells and its table of places.
-pub fn scan(journal: &[u8], n: usize, table: &[u8; 2048]) -> Contents
-    requires { ⌜ (length (now journal) ≤ 65536) × (n ≤ 256) ⌝ }
-    ensures { λ r. ⌜ Scans (factsIn n (now (table .entry))) (now (journal .entry)) (r .answer) (r .values) ⌝ }
+// Reads a journal of any length, by a program's byte 0, which is the number of its highest cell, and its
+// table of places.
+pub fn scan(journal: &[u8], highest: u8, table: &[u8; 2048]) -> Contents
+    ensures { λ r. ⌜ ScanIs (factsIn (highest + 1) (now (table .entry))) (now (journal .entry)) (r .answer) (r .values) ⌝ }
 {
+    if 65536 < journal.len() {
+        return refused(Scanned::TooLong);
+    }
     let t = content(journal);
-    walk(&journal[..t], n, table)
+    walk(&journal[..t], highest as usize + 1, table)
 }

@@ -94,9 +94,9 @@ module _ {p lent lent′ s s′ : List ℕ} (few : cellsOf p ≤ 256) (x : Exclu
 
 -- the text for a refused program does not look at the sets
 same-text : {p lent lent′ s s′ : List ℕ} → cellsOf p ≤ 256 → (answer : Analysed)
-    → ((cells instructions marks : ℕ) → answer ≡ Sets cells instructions marks → ExcludeSets p lent s)
-    → ((cells instructions marks : ℕ) → answer ≡ Sets cells instructions marks → ExcludeSets p lent′ s′) → listingOf answer p s ≡ listingOf answer p s′
-same-text few (Sets cells instructions marks) x y = same-accepted few (x cells instructions marks refl) (y cells instructions marks refl)
+    → ((cells instructions excludes : ℕ) → answer ≡ Sets cells instructions excludes → ExcludeSets p lent s)
+    → ((cells instructions excludes : ℕ) → answer ≡ Sets cells instructions excludes → ExcludeSets p lent′ s′) → listingOf answer p s ≡ listingOf answer p s′
+same-text few (Sets cells instructions excludes) x y = same-accepted few (x cells instructions excludes refl) (y cells instructions excludes refl)
 same-text few (Refused n) x y = refl
 
 -- ---- the whole call
@@ -111,15 +111,15 @@ list-fixed p before few x y =
     (v .stored ∙ rw t (sym (w .stored)), v .end ∙ rw t (sym (w .end)))
 
 -- the cells of an accepted program's line
-module _ {p before after : List ℕ} {r cells instructions marks : ℕ} (few : cellsOf p ≤ 256) (l : Lists p before after r)
-    (accepted : analyseOf p 2048 512 ≡ Sets cells instructions marks) (e c : ℕ) (is : isExclude p e ≡ true) (below : c < cellsOf p) where
+module _ {p before after : List ℕ} {r cells instructions excludes : ℕ} (few : cellsOf p ≤ 256) (l : Lists p before after r)
+    (accepted : analyseOf p 2048 512 ≡ Sets cells instructions excludes) (e c : ℕ) (is : isExclude p e ≡ true) (below : c < cellsOf p) where
   -- after `dead`
   pub listed-de : Tells (member (l .sets) (8 * excludeNumber p e) c) (DE p e c)
-  listed-de = tells-de few (l .filled cells instructions marks accepted) e c is below
+  listed-de = tells-de few (l .filled cells instructions excludes accepted) e c is below
 
   -- after `fixed`
   pub listed-ro : Tells (member (l .sets) (8 * excludeNumber p e + 4) c) (RO p e c)
-  listed-ro = tells-ro few (l .filled cells instructions marks accepted) e c is below
+  listed-ro = tells-ro few (l .filled cells instructions excludes accepted) e c is below
 
   -- after `saved`
   pub listed-saved : Tells (inNeither (member (l .sets) (8 * excludeNumber p e)) (member (l .sets) (8 * excludeNumber p e + 4)) c) ((¬ DE p e c) × (¬ RO p e c))

@@ -40,7 +40,7 @@ module _ (p s : List ℕ) {b r : ℕ} {o₀ o₁ : List ℕ} (d : Decodes p) (e 
 
 -- `write_listing`: an accepted answer is check's
 checked : (k : Checked) {c n e : ℕ} → Sets c n e ≡ analysedFrom k false → checked-variants.Program c n e ≡ k
-checked (checked-variants.Program cells instructions marks) h = cc
+checked (checked-variants.Program cells instructions excludes) h = cc
 checked (checked-variants.Refused m) h = absurd (let z : _≡_ {A = ℕ} 0 1 = cc in omega arith)
 
 pub accepted-decodes : (p : List ℕ) {answer : Analysed} {c n e : ℕ} → answer ≡ analyseOf p 2048 512 → answer ≡ Sets c n e → Decodes p

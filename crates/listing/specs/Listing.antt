@@ -62,7 +62,7 @@ acceptedOf p s = headOf (bytes "cells ") (cellsOf p) ++ linesOf p s (starts p)
 
 -- the text for an answer, a program and the words of its sets; "A refused plan gives one line only, as `refused 2`"
 abbrev pub listingOf : Analysed → (p s : List ℕ) → List ℕ
-listingOf (Sets cells instructions marks) p s = acceptedOf p s
+listingOf (Sets cells instructions excludes) p s = acceptedOf p s
 listingOf (Refused n) p s = headOf (bytes "refused ") n
 
 -- the whole text, which has at most 140,000 bytes, stands in the buffer from its start on
@@ -74,5 +74,5 @@ pub record Listed (answer : Analysed) (p s before after : List ℕ) (r : ℕ) : 
 pub record Lists (p before after : List ℕ) (r : ℕ) : Type 0 where
   pub sets : List ℕ
   pub lent : List ℕ
-  pub filled : (cells instructions marks : ℕ) → analyseOf p 2048 512 ≡ Sets cells instructions marks → ExcludeSets p lent sets
+  pub filled : (cells instructions excludes : ℕ) → analyseOf p 2048 512 ≡ Sets cells instructions excludes → ExcludeSets p lent sets
   pub listed : Listed (analyseOf p 2048 512) p sets before after r

@@ -1,3 +1,4 @@
--- What the three walks share. The functions' contracts are what other crates cite.
+-- What the three walks share, and whoever lends a state to these functions. The functions' contracts are what other crates cite.
 -- Assumes nothing.
-mod Lending
+pub mod Walking
+pub mod Lending

@@ -2,7 +2,7 @@
 // there"): `step`, `run` and `recover` take it by `&mut`, copy it out, call `run`'s and `recovery`'s functions
 // by value, and store back the state that these return. Proved of each, for any state and any buffers: the
 // state at exit, the journal, the outputs and the answer are those that the definitions of `run` and
-// `recovery` make of the state at entry, `callOf` and `Recovers`, the same that the functions by value meet.
+// `recovery` make of the state at entry, `CallIs` and `RecoverIs`, the same that the functions by value meet.
 use recovery::Recovered;
 use recovery::recover_value;
 use run::Ended;
@@ -11,8 +11,8 @@ use run::step_value;
 use step::State;
 ghost use mathlib.Core.Path.{_≡_};
 ghost use Rattle.step.specs.State.{envOf, machineOf};
-ghost use Rattle.run.specs.Run.{outcome, callOf};
-ghost use Rattle.recovery.specs.Recover.{Recovers};
+ghost use Rattle.run.specs.Run.{outcome, CallIs};
+ghost use Rattle.recovery.specs.Recover.{RecoverIs};
 ghost use Rattle.recovery.specs.Recover as recovery;
 
 // What a call of step or run answers: how the run ended, and this call's steps, readings taken and
@@ -33,7 +33,7 @@ pub fn step(
     readings: &[i32],
     outputs: &mut [i32],
 ) -> Passed
-    ensures { λ r. ⌜ outcome (r .ended) (machineOf (now (state .exit) .regs) (now (state .exit) .cells) (now (state .exit) .marks) (now (journal .exit))) (r .steps) (r .taken) (r .written) (now (outputs .exit)) ≡ callOf (envOf (now (program .entry)) (now (sets .entry))) (now (readings .entry)) 1 (machineOf (now (state .entry) .regs) (now (state .entry) .cells) (now (state .entry) .marks) (now (journal .entry))) (now (outputs .entry)) ⌝ }
+    ensures { λ r. ⌜ CallIs (envOf (now (program .entry)) (now (sets .entry))) (now (readings .entry)) 1 (machineOf (now (state .entry) .regs) (now (state .entry) .cells) (now (state .entry) .marks) (now (journal .entry))) (now (outputs .entry)) (outcome (r .ended) (machineOf (now (state .exit) .regs) (now (state .exit) .cells) (now (state .exit) .marks) (now (journal .exit))) (r .steps) (r .taken) (r .written) (now (outputs .exit))) ⌝ }
 {
     let s = *state;
     let r = step_value(s, program, sets, journal, readings, outputs);
@@ -56,7 +56,7 @@ pub fn run(
     outputs: &mut [i32],
     budget: u64,
 ) -> Passed
-    ensures { λ r. ⌜ outcome (r .ended) (machineOf (now (state .exit) .regs) (now (state .exit) .cells) (now (state .exit) .marks) (now (journal .exit))) (r .steps) (r .taken) (r .written) (now (outputs .exit)) ≡ callOf (envOf (now (program .entry)) (now (sets .entry))) (now (readings .entry)) budget (machineOf (now (state .entry) .regs) (now (state .entry) .cells) (now (state .entry) .marks) (now (journal .entry))) (now (outputs .entry)) ⌝ }
+    ensures { λ r. ⌜ CallIs (envOf (now (program .entry)) (now (sets .entry))) (now (readings .entry)) budget (machineOf (now (state .entry) .regs) (now (state .entry) .cells) (now (state .entry) .marks) (now (journal .entry))) (now (outputs .entry)) (outcome (r .ended) (machineOf (now (state .exit) .regs) (now (state .exit) .cells) (now (state .exit) .marks) (now (journal .exit))) (r .steps) (r .taken) (r .written) (now (outputs .exit))) ⌝ }
 {
     let s = *state;
     let r = run_value(s, program, sets, journal, readings, outputs, budget);
@@ -71,7 +71,7 @@ pub fn run(
 
 // Recovery, into the state lent.
 pub fn recover(state: &mut State, program: &[u8], sets: &[u64], journal: &[u8]) -> Recovered
-    ensures { λ r. ⌜ Recovers (envOf (now (program .entry)) (now (sets .entry))) (machineOf (now (state .entry) .regs) (now (state .entry) .cells) (now (state .entry) .marks) (now (journal .entry))) (recovery.outcome r (machineOf (now (state .exit) .regs) (now (state .exit) .cells) (now (state .exit) .marks) (now (journal .entry)))) ⌝ }
+    ensures { λ r. ⌜ RecoverIs (envOf (now (program .entry)) (now (sets .entry))) (machineOf (now (state .entry) .regs) (now (state .entry) .cells) (now (state .entry) .marks) (now (journal .entry))) (recovery.outcome r (machineOf (now (state .exit) .regs) (now (state .exit) .cells) (now (state .exit) .marks) (now (journal .entry)))) ⌝ }
 {
     let s = *state;
     let r = recover_value(s, program, sets, journal);

@@ -1,7 +1,7 @@
 -- The number of a plan, and the refusal of a call that lends a state of another length.
 -- Assumes nothing.
 use Prim.Native.Nat.{ℕ, _/_, _≤_, _<_}
-use mathlib.Core.Path.{_≡_, sym, ap}
+use mathlib.Core.Path.{_≡_, ap}
 use mathlib.Core.List.{List}
 use native.Mathlib.Omega.{arith}
 use borrow.Author.Tests.{lt-ltb, le-ltb, ne-eqb, eqb-false}
@@ -13,6 +13,7 @@ use Rattle.program.specs.Places.{Places}
 use Rattle.program.specs.declared.Checked.the-variants.{Program, Refused}
 use Rattle.program.proofs.Grounds.{accepted-values}
 use Rattle.program.proofs.Tests.{bool-cases}
+use Rattle.step.proofs.Tables.{legal}
 use Rattle.pitskelo.specs.Runs.{oddState, PlanIs}
 
 -- a refused plan's number, and an accepted plan
@@ -20,8 +21,7 @@ pub refused-plan : {p table : List ℕ} {k : ℕ} → Refused k ≡ checkOf p �
 refused-plan h r = record { number = ap numberOf h; accepted = λ z. absurd (omega (arith, accepted-values r z)) }
 
 pub accepted-plan : {p table : List ℕ} {c i e : ℕ} → Program c i e ≡ checkOf p → Places p table → PlanIs p 0 table
-accepted-plan {c = c} {i} {e} h t =
-    record { number = ap numberOf h; accepted = λ z. (record { cells = c; instructions = i; excludes = e; accepted = sym h }, t) }
+accepted-plan h t = record { number = ap numberOf h; accepted = λ z. (legal h, t) }
 
 -- the plan's
 pub plan-refused : (p ws : List ℕ) {k : ℕ} → Refused k ≡ checkOf p → Ruled p (answerOf (Refused k)) → k ≡ oddState p ws

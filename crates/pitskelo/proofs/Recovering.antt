@@ -1,17 +1,22 @@
--- What is loaded from the bytes that are lent, and from recovery's outcome to what `pitskelo_recover` leaves.
+-- What is loaded from the bytes that are lent, from recovery's outcome to what `pitskelo_recover` leaves, and that its contract decides the result and every byte of the
+-- state (`recover-fixed`).
 -- Assumes nothing.
 use Prim.Native.Nat.{ℕ, _/_, min}
 use mathlib.Core.Path.{_≡_, sym, _∙_, ap, subst}
 use mathlib.Core.List.{List}
-use borrow.Author.Tests.{eq-eqb, ne-eqb}
+use mathlib.Core.Bool.{cond}
+use lib.Dec.{eqb}
+use borrow.Author.Tests.{eqb-true, eq-eqb, ne-eqb}
 use lib.ListN.{length, take}
 use Rattle.step.specs.declared.Regs.{Regs}
 use Rattle.step.specs.State.{Env, envOf, Machine, machineOf}
 use Rattle.recovery.specs.declared.Recovered.{Recovered}
 use Rattle.recovery.specs.declared.Recovered.the-variants.{Restored}
-use Rattle.recovery.specs.Recover.{Recovers, outcome, answerOf}
+use Rattle.program.proofs.Tests.{bool-cases}
+use Rattle.recovery.specs.Recover.{Recovers, Outcome, outcome, answerOf}
+use Rattle.recovery.proofs.Laws.{one-outcome}
 use Rattle.layout.specs.Numbers.{numbersFrom}
-use Rattle.layout.specs.Layout.{regsIn, cellsIn, marksIn, machineIn, bytesOfState}
+use Rattle.layout.specs.Layout.{stateSize, regsIn, cellsIn, marksIn, machineIn, bytesOfState}
 use Rattle.pitskelo.specs.Runs.{setsIn, oddState, RecoverCall}
 use Rattle.pitskelo.proofs.OddStates.{odd-refused}
 
@@ -57,3 +62,20 @@ module _ (p ws chip state words : List ℕ) {n : ℕ} {q : Regs} {xs ms : List �
   -- else the outcome's is stored
   pub done-recovery : {k : ℕ} → k ≡ answerOf a .number → k ≡ 0 → {b : List ℕ} → b ≡ bytesOfState m → RecoverCall p ws chip state b 0
   done-recovery h z l = record { outcome = outcome a m; recovers = λ e. recovered; number = rw (eq-eqb (length state) 1312 size) (sym z ∙ h); left = l }
+
+-- ---- one result, and one content of the state
+
+pub recover-fixed : {p ws chip state left left′ : List ℕ} {k k′ : ℕ} → RecoverCall p ws chip state left k → RecoverCall p ws chip state left′ k′ → (k ≡ k′) × (left ≡ left′)
+recover-fixed {p} {ws} {chip} {state} {k = k} {k′ = k′} x y =
+    bool-cases (eqb (length state) stateSize)
+    (λ b.
+    let size = eqb-true _ _ b in
+    let o = one-outcome _ _ _ _ (x .recovers size) (y .recovers size) in
+    let same : k ≡ k′ = rw b at (x .number) ∙ ap (λ (r : Outcome). answerOf (r .answer) .number) o ∙ sym (rw b at (y .number)) in
+    (same, x .left ∙ (λ i. cond (eqb (same i) 0) (bytesOfState (o i .machine)) state) ∙ sym (y .left)))
+    (λ b.
+    let h : k ≡ oddState p ws = rw b at (x .number) in
+    let h′ : k′ ≡ oddState p ws = rw b at (y .number) in
+    let lent = rw (ne-eqb k 0 (λ z. odd-refused p ws (sym h ∙ z))) at (x .left) in
+    let lent′ = rw (ne-eqb k′ 0 (λ z. odd-refused p ws (sym h′ ∙ z))) at (y .left) in
+    (h ∙ sym h′, lent ∙ sym lent′))

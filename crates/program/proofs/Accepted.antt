@@ -24,7 +24,7 @@ use Rattle.program.proofs.Walks.{whole, sound-next}
 use Rattle.program.proofs.Filling.{none-past, none-before}
 
 -- what check tested, and the numbers of its answer
-pub record Accepted (p : List ℕ) (cells instructions marks : ℕ) : Type 0 where
+pub record Accepted (p : List ℕ) (cells instructions exclude-count : ℕ) : Type 0 where
   pub some : 0 < length p
   pub most : length p ≤ 2048
   pub sound : firstRefusal p (starts p) ≡ 0
@@ -34,7 +34,7 @@ pub record Accepted (p : List ℕ) (cells instructions marks : ℕ) : Type 0 whe
   pub jumps : jumpsAmong p (starts p) (starts p) ≡ true
   pub cells-are : cells ≡ cellsOf p
   pub instructions-are : instructions ≡ length (starts p)
-  pub excludes-are : marks ≡ excludes p (starts p)
+  pub excludes-are : exclude-count ≡ excludes p (starts p)
 
 -- the next of the tests failed, or the answer is a refusal
 past : {C : Type 0} {c n e : ℕ} (m : ℕ) (b : Bool) {r : Checked} → Program c n e ≡ cond b (Refused m) r → (b ≡ false → Program c n e ≡ r → C) → C

@@ -22,14 +22,14 @@ use Rattle.program.proofs.PlaceLaws.{placed-start}
 record Found (p : List ℕ) (n e k j : ℕ) : Type 0 where
   pub sound : firstRefusal p (starts p) ≡ 0
   pub count : length (starts p) ≡ n
-  pub marks : excludes p (starts p) ≡ e
+  pub exclude-count : excludes p (starts p) ≡ e
   pub final : lastOpcode p 0 (starts p) ≡ k
   pub jumps : jumpCount p (starts p) ≡ j
 
 found : (p : List ℕ) {n e k j : ℕ} → All n e k j ≡ walkOf p → Found p n e k j
 found p h =
     bool-cases (eqb (firstRefusal p (starts p)) 0)
-    (λ t. let q = rw t at h in record { sound = eqb-true _ _ t; count = cc; marks = cc; final = cc; jumps = cc })
+    (λ t. let q = rw t at h in record { sound = eqb-true _ _ t; count = cc; exclude-count = cc; final = cc; jumps = cc })
     (λ t. let q = rw t at h in let z : _≡_ {A = ℕ} 0 1 = cc in absurd (omega arith))
 
 -- or a refusal
@@ -41,7 +41,7 @@ bad p h =
 
 -- few EXCLUDEs: the program's table of places can be filled
 decodes : (p : List ℕ) {n e k j : ℕ} → length p ≤ 2048 → All n e k j ≡ walkOf p → e ≤ 64 → Decodes p
-decodes p most h few = let f = found p h in record { most = most; sound = f .sound; few = rw (f .marks) few }
+decodes p most h few = let f = found p h in record { most = most; sound = f .sound; few = rw (f .exclude-count) few }
 
 -- what the walk noted: no more targets than there is room for, and with few EXCLUDEs the table tells whether they are starts
 module _ (p table ts : List ℕ) {n e k j : ℕ} (w : Walks p (All n e k j) table ts) where
@@ -69,4 +69,4 @@ module _ (p : List ℕ) (most : length p ≤ 2048) (some : 0 < length p) where
   decided h es ej em =
       let f = found p h in
       let ne : length p ≡ 0 → ⊥ = λ e. omega arith in
-      rw (ne-eqb _ _ ne, le-ltb 2048 (length p) most, f .sound, f .count, f .marks, f .final, ej, es, em)
+      rw (ne-eqb _ _ ne, le-ltb 2048 (length p) most, f .sound, f .count, f .exclude-count, f .final, ej, es, em)

@@ -1,11 +1,11 @@
 -- The check's answer is the one that document 01's grounds allow (`ruled`), and they allow exactly one (`one-answer`).
 -- So a refusal's number is given on that number's ground, and on no other.
 -- Assumes nothing.
-use mathlib.Core.Path.{_≡_, refl}
+use mathlib.Core.Path.{_≡_, refl, sym, _∙_, ap, subst}
 use mathlib.Core.Logic.{_⊎_, inl, inr}
 use mathlib.Core.List.{List, [], _∷_}
 use mathlib.Core.Bool.{Bool, true, false, _||_, or-true}
-use Prim.Native.Nat.{ℕ, _+_, _≤_, _<_}
+use Prim.Native.Nat.{ℕ, suc, _+_, _≤_, _<_}
 use native.Mathlib.Omega.{arith}
 use lib.ListN.{length}
 use lib.Dec.{ltb, eqb}
@@ -13,8 +13,10 @@ use borrow.Author.Tests.{lt-ltb, ltb-true, ltb-false, eqb-true, eq-eqb, ne-eqb}
 use Rattle.instruction.specs.Bytes.{byte, cellsOf, lengthOf, instructionAt}
 use Rattle.instruction.specs.Table.{named, allBelow, tableFits}
 use Rattle.program.specs.Starts.{starts, refusalAt, firstRefusal, excludes, lastOpcode, jumpsAmong}
-use Rattle.program.specs.Check.{Answer, answerOf, closes, checkOf}
-use Rattle.program.specs.Grounds.{BadAt, unknown, cut, missing, table, FirstBad, here, later, Ground, size, command, many, last, jump, Ruled, passes, refuses}
+use Rattle.program.specs.Check.{Answer, answerOf, numberOf, closes, checkOf}
+use Rattle.program.specs.Grounds.{BadAt, unknown, cut, missing, table, FirstBad, here, later, Ground, size, command, many, last, jump, Allowed, granted, denied, Ruled, CallGround, plan, words, own}
+use Rattle.program.specs.declared.Checked.{Checked}
+use Rattle.program.specs.declared.Checked.the-variants.{Program, Refused}
 use Rattle.program.proofs.Tests.{bool-cases, clash, or-cases}
 
 -- of two numbers neither of which is below the other
@@ -135,31 +137,83 @@ pub ruled : (p : List ℕ) → Ruled p (answerOf (checkOf p))
 unfolding checkOf
 ruled p =
     bool-cases (tooLong p)
-    (λ a. rw a (refuses (size (long-is p a))
+    (λ a. rw a (denied (size (long-is p a))
     (refute p 1 (λ l. absurd (omega arith)) (λ m l h. omega (arith, first-range h .0)) (λ l. absurd (omega arith)) (λ l. absurd (omega arith)) (λ l. absurd (omega arith)))))
     (λ a. scan p (starts p)
     (λ b none. bool-cases (tooMany p)
-    (λ c. rw (a, b, c) (refuses (many (many-is p c)) (refute p 6 (λ l. a) (λ m l. none m) (λ l. absurd (omega arith)) (λ l. absurd (omega arith)) (λ l. absurd (omega arith)))))
+    (λ c. rw (a, b, c) (denied (many (many-is p c)) (refute p 6 (λ l. a) (λ m l. none m) (λ l. absurd (omega arith)) (λ l. absurd (omega arith)) (λ l. absurd (omega arith)))))
     (λ c. bool-cases (closes (lastOpcode p 0 (starts p)))
     (λ d. bool-cases (jumpsAmong p (starts p) (starts p))
-    (λ e. rw (a, b, c, d, e) (passes (λ m h. refute p 9 (λ l. a) (λ m l. none m) (λ l. c) (λ l. d) (λ l. e) m (omega (arith, ground-range h .1)) h)))
-    (λ e. rw (a, b, c, d, e) (refuses (jump e) (refute p 8 (λ l. a) (λ m l. none m) (λ l. c) (λ l. d) (λ l. absurd (omega arith))))))
-    (λ d. rw (a, b, c, d) (refuses (last d) (refute p 7 (λ l. a) (λ m l. none m) (λ l. c) (λ l. absurd (omega arith)) (λ l. absurd (omega arith)))))))
-    (λ n b z first. rw (a, b, ne-eqb n 0 z) (refuses (command first)
+    (λ e. rw (a, b, c, d, e) (granted (λ m h. refute p 9 (λ l. a) (λ m l. none m) (λ l. c) (λ l. d) (λ l. e) m (omega (arith, ground-range h .1)) h) refl))
+    (λ e. rw (a, b, c, d, e) (denied (jump e) (refute p 8 (λ l. a) (λ m l. none m) (λ l. c) (λ l. d) (λ l. absurd (omega arith))))))
+    (λ d. rw (a, b, c, d) (denied (last d) (refute p 7 (λ l. a) (λ m l. none m) (λ l. c) (λ l. absurd (omega arith)) (λ l. absurd (omega arith)))))))
+    (λ n b z first. rw (a, b, ne-eqb n 0 z) (denied (command first)
     (refute p n (λ l. a) (λ m l h. omega (arith, first-one h first)) (early first 6 (omega arith)) (early first 7 (omega arith)) (early first 8 (omega arith))))))
 
--- two numbers, each with its ground and none below
-one-number : {p : List ℕ} (m n : ℕ) → Ground p m → ((k : ℕ) → k < m → ¬ Ground p k) → Ground p n → ((k : ℕ) → k < n → ¬ Ground p k) → m ≡ n
-one-number m n f h g k = order m n (λ l. absurd (k m l f)) (λ l. absurd (h n l g)) (λ e. e)
+-- where no refusal has the number 0 and the accepted values are fixed, one answer is allowed
+pub one-allowed : {G : ℕ → Type 0} {Values : List ℕ → Type 0} {a b : Answer} → ¬ G 0 → ((vs ws : List ℕ) → Values vs → Values ws → vs ≡ ws) → Allowed G Values a
+    → Allowed G Values b → a ≡ b
+one-allowed z v (granted h x) (granted k y) = ap (λ (vs : List ℕ). record { number = 0; values = vs }) (v _ _ x y)
+one-allowed z v (granted h x) (denied g k) = absurd (h _ g)
+one-allowed z v (denied g k) (granted h x) = absurd (h _ g)
+one-allowed z v (denied {n} f h) (denied {n = m} g k) =
+    order n m (λ l. absurd (k n l f)) (λ l. absurd (h m l g)) (λ e. ap (λ (i : ℕ). record { number = i; values = [] }) e)
 
--- and the only one
+-- so check's is the only one
 pub one-answer : (p : List ℕ) {a b : Answer} → Ruled p a → Ruled p b → a ≡ b
-one-answer p (passes h) (passes k) = refl
-one-answer p (passes h) (refuses g k) = absurd (h _ g)
-one-answer p (refuses g h) (passes k) = absurd (k _ g)
-one-answer p (refuses f h) (refuses g k) = rw (one-number _ _ f h g k)
+one-answer p = one-allowed (λ g. omega (arith, ground-range g .0)) (λ vs ws e d. e ∙ sym d)
 
 -- number 0 comes with the three values: no refusal has it
 pub accepted-values : {p : List ℕ} {a : Answer} → Ruled p a → a .number ≡ 0 → length (a .values) ≡ 3
-accepted-values (passes h) e = refl
-accepted-values (refuses g h) e = absurd (omega (arith, ground-range g .0))
+accepted-values (granted h x) e = ap length x
+accepted-values (denied g h) e = absurd (omega (arith, ground-range g .0))
+
+-- ---- for the calls that check a plan too
+
+-- what the number of check's answer tells: with 0 there is no ground
+pub ruled-passes : {p : List ℕ} {a : Answer} → Ruled p a → a .number ≡ 0 → (m : ℕ) → ¬ Ground p m
+ruled-passes (granted h x) e = h
+ruled-passes (denied g h) e = absurd (omega (arith, ground-range g .0))
+
+-- with another it is the lowest ground
+pub record Lowest (p : List ℕ) (n : ℕ) : Type 0 where
+  pub ground : Ground p n
+  pub below : (m : ℕ) → m < n → ¬ Ground p m
+  pub most : n ≤ 8
+
+pub ruled-refuses : {p : List ℕ} {a : Answer} → Ruled p a → ¬ (a .number ≡ 0) → Lowest p (a .number)
+ruled-refuses (granted h x) z = absurd (z refl)
+ruled-refuses (denied g h) z = record { ground = g; below = h; most = ground-range g .1 }
+
+number-same : (r : Checked) → answerOf r .number ≡ numberOf r
+number-same (Program cells instructions excludes) = refl
+number-same (Refused n) = refl
+
+pub plan-passes : (p : List ℕ) → numberOf (checkOf p) ≡ 0 → (m : ℕ) → ¬ Ground p m
+plan-passes p e = ruled-passes (ruled p) (number-same (checkOf p) ∙ e)
+
+pub plan-refuses : (p : List ℕ) → ¬ (numberOf (checkOf p) ≡ 0) → Lowest p (numberOf (checkOf p))
+plan-refuses p z = subst (Lowest p) (number-same (checkOf p)) (ruled-refuses (ruled p) (λ e. z (sym (number-same (checkOf p)) ∙ e)))
+
+-- where no ground of the three kinds is below n, none is
+below : {p : List ℕ} {Short : Type 0} {Own : ℕ → Type 0} (n : ℕ) → ((m : ℕ) → m < n → ¬ Ground p m) → (9 < n → ¬ Short) → ((m : ℕ) → m < n → ¬ Own m) → (m : ℕ) → m < n
+    → ¬ CallGround p Short Own m
+below n a b c m l (plan g) = a m l g
+below n a b c m l (words s) = b l s
+below n a b c m l (own g) = c m l g
+
+-- their answers, where their own grounds come behind 9
+module _ {p : List ℕ} {Short : Type 0} {Own : ℕ → Type 0} {Values : List ℕ → Type 0} (late : (n : ℕ) → Own n → 9 < n) where
+  -- check refuses
+  pub by-check : {n : ℕ} → Lowest p n → Allowed (CallGround p Short Own) Values (record { number = n; values = [] })
+  by-check {n} w = denied (plan (w .ground)) (below n (w .below) (λ l. absurd (omega (arith, w .most))) (λ m l g. omega (arith, w .most, late m g)))
+
+  module _ (passes : (m : ℕ) → ¬ Ground p m) where
+    -- the words are too few
+    pub by-words : Short → Allowed (CallGround p Short Own) Values (record { number = 9; values = [] })
+    by-words s = denied (words s) (below 9 (λ m _. passes m) (λ l. absurd (omega arith)) (λ m l g. omega (arith, late m g)))
+
+    -- else its own grounds decide
+    pub by-own : {a : Answer} → ¬ Short → Allowed Own Values a → Allowed (CallGround p Short Own) Values a
+    by-own z (granted h x) = granted (λ m g. below (suc m) (λ k _. passes k) (λ _. z) (λ k _. h k) m (omega arith) g) x
+    by-own z (denied {n} g h) = denied (own g) (below n (λ m _. passes m) (λ _. z) h)

@@ -49,7 +49,7 @@ module _ (p table ts : List ℕ) {ts′ : List ℕ} (at : ℕ) {n e k j v x y d 
       let os = startsFrom f p (at + d) in
       let ey′ : y ≡ j + length (targets (rowOf (instructionAt p at) .flow)) = rw (← ei, ← eg) ey in
       let et′ : ts′ ≡ noteOf (rowOf (instructionAt p at) .flow) j ts = rw (← ei, ← eg) et in
-      let m = q .counts .marks in
+      let m = q .counts .exclude-count in
       record {
         counts = walking-turn p at os none ex ey′ (q .counts);
         fills = λ few. filling-turn p table f low some (omega arith) ev ex (q .fills few);

@@ -39,21 +39,21 @@ whole-by p at e h = rw e (whole p at h)
 pub record Walking (p : List ℕ) (n e k j : ℕ) (os : List ℕ) : Type 0 where
   pub bad : firstRefusal p (starts p) ≡ firstRefusal p os
   pub count : length (starts p) ≡ n + length os
-  pub marks : excludes p (starts p) ≡ e + excludes p os
+  pub exclude-count : excludes p (starts p) ≡ e + excludes p os
   pub final : lastOpcode p 0 (starts p) ≡ lastOpcode p k os
   pub jumps : jumpCount p (starts p) ≡ j + jumpCount p os
 
 pub walking-first : (p : List ℕ) → Walking p 0 0 0 0 (starts p)
-walking-first p = record { bad = refl; count = omega arith; marks = omega arith; final = refl; jumps = omega arith }
+walking-first p = record { bad = refl; count = omega arith; exclude-count = omega arith; final = refl; jumps = omega arith }
 
 pub walking-turn : (p : List ℕ) (at : ℕ) {n e k j x y : ℕ} (os : List ℕ) → refusalAt p at ≡ 0 → x ≡ cond (eqb (byte p at) 0x0D) 1 0
     → y ≡ j + length (targets (rowOf (instructionAt p at) .flow)) → Walking p n e k j (at ∷ os) → Walking p (n + 1) (e + x) (byte p at) y os
 unfolding firstRefusal excludes lastOpcode jumpCount
 walking-turn p at os r ex ey w =
-    let m = w .marks in
+    let m = w .exclude-count in
     let c = w .count in
     let t = w .jumps in
-    rw (ex, ey) (record { bad = rw r at (w .bad); count = omega arith; marks = omega arith; final = w .final; jumps = omega arith })
+    rw (ex, ey) (record { bad = rw r at (w .bad); count = omega arith; exclude-count = omega arith; final = w .final; jumps = omega arith })
 
 -- the first refusal is met here
 pub walking-bad : (p : List ℕ) (at : ℕ) {n e k j no : ℕ} (os : List ℕ) → no ≡ refusalAt p at → (no ≡ 0 → ⊥)
@@ -65,6 +65,6 @@ pub walking-done : (p : List ℕ) {n e k j : ℕ} → Walking p n e k j [] → A
 unfolding firstRefusal excludes lastOpcode jumpCount
 walking-done p {n} {e} {k} {j} w =
     let c : length (starts p) ≡ n = omega (arith, w .count) in
-    let m : excludes p (starts p) ≡ e = omega (arith, w .marks) in
+    let m : excludes p (starts p) ≡ e = omega (arith, w .exclude-count) in
     let t : jumpCount p (starts p) ≡ j = omega (arith, w .jumps) in
     rw (w .bad, c, m, w .final, t)

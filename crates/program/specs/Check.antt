@@ -55,3 +55,8 @@ pub record Walks (p : List ℕ) (r : Walked) (table ts : List ℕ) : Type 0 wher
   pub noted : firstRefusal p (starts p) ≡ 0
       → (jumpCount p (starts p) ≤ 683) × (jumpsAmong p (starts p) (starts p) ≡ allFirst (isStart p) (jumpCount p (starts p)) ts)
   pub places : Decodes p → Places p table
+
+-- what the check answers and leaves in a table, blank before: of an accepted program its places
+pub record Fills (p : List ℕ) (r : Checked) (table : List ℕ) : Type 0 where
+  pub is : r ≡ checkOf p
+  pub places : (cells instructions excludes : ℕ) → r ≡ Program cells instructions excludes → Places p table

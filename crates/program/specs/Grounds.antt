@@ -13,7 +13,7 @@ use Rattle.program.specs.Starts.{starts, excludes, lastOpcode, jumpsAmon
 use Rattle.program.specs.Check.{Answer, answerOf, closes, checkOf}
 use Rattle.program.specs.Places.{Places}
 use Rattle.program.specs.declared.Checked.{Checked}
-use Rattle.program.specs.declared.Checked.the-variants.{Program}
+use Rattle.program.specs.declared.Checked.the-variants.{Program, Refused}
 
 -- of the instruction at o: 2 "unknown command byte", 3 "operands pass the end", 4 "a cell doesn't exist (base aside)",
 -- 5 "len 0, or table passes the last cell"
@@ -37,17 +37,32 @@ pub data Ground (p : List ℕ) : ℕ → Type 0 where
   last : closes (lastOpcode p 0 (starts p)) ≡ false → Ground p 7
   jump : jumpsAmong p (starts p) (starts p) ≡ false → Ground p 8
 
--- the answer that the grounds allow: there is exactly one
-pub data Ruled (p : List ℕ) : Answer → Type 0 where
-  passes : ((m : ℕ) → ¬ Ground p m) → Ruled p (record { number = 0; values = cellsOf p ∷ length (starts p) ∷ excludes p (starts p) ∷ [] })
-  refuses : {n : ℕ} → Ground p n → ((m : ℕ) → m < n → ¬ Ground p m) → Ruled p (record { number = n; values = [] })
+-- the answer that the grounds G of a call allow, where an accepted call answers values that `Values` holds of: "given on that number's ground and on no other", "Rising order"
+pub data Allowed (G : ℕ → Type 0) (Values : List ℕ → Type 0) : Answer → Type 0 where
+  granted : {vs : List ℕ} → ((m : ℕ) → ¬ G m) → Values vs → Allowed G Values (record { number = 0; values = vs })
+  denied : {n : ℕ} → G n → ((m : ℕ) → m < n → ¬ G m) → Allowed G Values (record { number = n; values = [] })
+
+-- "Check answers the numbers of cells, commands and EXCLUDEs"
+abbrev pub Counts : List ℕ → List ℕ → Type 0
+Counts p vs = vs ≡ cellsOf p ∷ length (starts p) ∷ excludes p (starts p) ∷ []
+
+-- check's answer: there is exactly one that its grounds allow
+abbrev pub Ruled : List ℕ → Answer → Type 0
+Ruled p = Allowed (Ground p) (Counts p)
+
+-- the grounds of a call that checks a plan too: check's; 9 "a word buffer too short"; and its own, which come later
+pub data CallGround (p : List ℕ) (Short : Type 0) (Own : ℕ → Type 0) : ℕ → Type 0 where
+  plan : {n : ℕ} → Ground p n → CallGround p Short Own n
+  words : Short → CallGround p Short Own 9
+  own : {n : ℕ} → Own n → CallGround p Short Own n
 
 -- what check promises of its answer: it is the defined one, and in 01's terms the one that the grounds allow
 pub record Checks (p : List ℕ) (r : Checked) : Type 0 where
   pub is : r ≡ checkOf p
   pub ruled : Ruled p (answerOf r)
 
--- what examine promises of its answer and of the table
-pub record Examines (p : List ℕ) (r : Checked) (table : List ℕ) : Type 0 where
+-- what examine promises of its answer and of the table, from that before it: an accepted program's places, and "a refusal alters nothing lent"
+pub record Examines (p : List ℕ) (r : Checked) (before after : List ℕ) : Type 0 where
   pub checks : Checks p r
-  pub places : (cells instructions excludes : ℕ) → r ≡ Program cells instructions excludes → Places p table
+  pub places : (cells instructions excludes : ℕ) → r ≡ Program cells instructions excludes → Places p after
+  pub kept : (n : ℕ) → r ≡ Refused n → after ≡ before

@@ -18,13 +18,14 @@ use jumps::all_start;
 use jumps::no_targets;
 use jumps::note;
 use places::blank;
+use places::clear;
 use places::place_from;
 use rules::refusal_at;
 use rules::same_byte;
 ghost use mathlib.Core.Path.{_≡_};
 ghost use Prim.Native.Nat.{_≤_, _<_};
 ghost use lib.ListN.{length};
-ghost use Rattle.program.specs.Check.{closes, checkOf, Walks};
+ghost use Rattle.program.specs.Check.{closes, checkOf, Walks, Fills};
 ghost use Rattle.program.specs.Grounds.{Checks, Examines};
 ghost use Rattle.program.specs.Places.{Blank};
 
@@ -123,10 +124,10 @@ fn conclude(
     }
 }
 
-// The check of a program; where it is accepted, the table, blank before, is filled with its places.
-pub fn examine(program: &[u8], table: &mut [u8; 2048]) -> Checked
+// The check of a program, which fills the table, blank before, as far as the walk goes.
+fn check_into(program: &[u8], table: &mut [u8; 2048]) -> Checked
     requires { ⌜ Blank (now table) ⌝ }
-    ensures { λ r. ⌜ Examines (now (program .entry)) r (now (table .exit)) ⌝ }
+    ensures { λ r. ⌜ Fills (now (program .entry)) r (now (table .exit)) ⌝ }
 {
     if program.len() == 0 {
         return Checked::Refused(1);
@@ -146,10 +147,30 @@ pub fn examine(program: &[u8], table: &mut [u8; 2048]) -> Checked
     }
 }
 
+// The check of a program: the table, blank before, has its places where it is accepted, and is blank again
+// where it is refused.
+pub fn examine(program: &[u8], table: &mut [u8; 2048]) -> Checked
+    requires { ⌜ Blank (now table) ⌝ }
+    ensures { λ r. ⌜ Examines (now (program .entry)) r (now (table .entry)) (now (table .exit)) ⌝ }
+{
+    let answer = check_into(program, table);
+    match answer {
+        Checked::Refused(number) => {
+            clear(table);
+            Checked::Refused(number)
+        }
+        Checked::Program {
+            cells: _,
+            instructions: _,
+            excludes: _,
+        } => answer,
+    }
+}
+
 // The check of a program, for every byte string.
 pub fn check(program: &[u8]) -> Checked
     ensures { λ r. ⌜ Checks (now (program .entry)) r ⌝ }
 {
     let mut table = blank();
-    examine(program, &mut table)
+    check_into(program, &mut table)
 }

@@ -23,6 +23,13 @@ pub fn blank() -> [u8; 2048]
     [0u8; 2048]
 }
 
+// Leaves no place in a table.
+pub(crate) fn clear(table: &mut [u8; 2048])
+    ensures { λ _. ⌜ Blank (now (table .exit)) ⌝ }
+{
+    *table = [0u8; 2048];
+}
+
 // The table's byte at a start, from the opcode before it, its own, and the EXCLUDEs before it. More of
 // these than 64 come in refused programs alone, and count as 64 so that a byte holds them.
 pub(crate) fn place_from(before: u8, opcode: u8, number: u32) -> u8

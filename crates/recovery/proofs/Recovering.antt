@@ -1,38 +1,32 @@
 -- From what check and scan answer to what recovery leaves: the number of a refusal by its tests, the facts of the last commit, and the marks by the last EXCLUDE.
 -- Assumes nothing.
 use Prim.Native.Nat.{ℕ, _+_, _-_, _*_, _≤_, _<_}
-use mathlib.Core.Path.{_≡_, refl, sym, subst}
+use mathlib.Core.Path.{_≡_, refl, sym, ap, subst}
 use mathlib.Core.Bool.{true}
 use mathlib.Core.List.{List, [], _∷_}
 use mathlib.Core.Logic.{_⊎_, inl, ⊎-elim}
 use native.Mathlib.Omega.{arith}
 use lib.ListN.{length, replicate}
 use borrow.Author.Tests.{lt-ltb, le-ltb, eq-eqb, ne-eqb}
-use Rattle.instruction.specs.Bytes.{byte, cellsOf}
+use Rattle.instruction.specs.Bytes.{byte}
 use Rattle.program.specs.Grounds.{Checks}
 use Rattle.program.specs.Places.{Places, isExclude, excludeNumber}
 use Rattle.program.specs.declared.Checked.the-variants as checked
-use Rattle.program.proofs.Accepted.{accepted}
 use Rattle.program.proofs.Grounds.{accepted-values}
 use Rattle.marks.specs.Marks.{recoveredMarks}
 use Rattle.journal.specs.declared.Commit.{Commit}
 use Rattle.journal.specs.declared.Scanned.{Scanned}
-use Rattle.journal.specs.declared.Scanned.the-variants.{Damaged, Found}
+use Rattle.journal.specs.declared.Scanned.the-variants.{TooLong, Damaged, Found}
 use Rattle.journal.specs.Format.{Checkpoint}
 use Rattle.journal.specs.Reading.{Facts, factsOf, first, lastOf, Rising, none, one}
+use Rattle.journal.specs.Answer as reader
 use Rattle.journal.specs.Answer.{factsIn, Taken, Scans}
 use Rattle.journal.proofs.Fixed.{facts-same, within}
 use Rattle.step.specs.declared.Regs.{Regs}
-use Rattle.step.specs.State.{envOf, Machine, machineOf}
+use Rattle.step.specs.State.{Env, envOf, Machine, machineOf}
 use Rattle.step.specs.Ready.{Legal, Ready}
 use Rattle.recovery.specs.declared.Recovered.the-variants.{Restored, Refused}
 use Rattle.recovery.specs.Recover.{refusalOf, regsOf, included, marksBy, outcome, recoverOf, Recovers, refuses, reads}
-
--- ---- an accepted program
-
--- check's answer tells it, and how many cells it has
-pub legal : {p : List ℕ} {a b x : ℕ} → Checks p (checked.Program a b x) → Legal p × (cellsOf p ≡ a)
-legal {p} {a} {b} {x} h = (record { cells = a; instructions = b; excludes = x; accepted = sym (h .is) }, sym (accepted p (h .is) .cells-are))
 
 -- ---- the marks
 
@@ -79,64 +73,68 @@ module _ (p ws : List ℕ) (m : Machine) where
     unfolding refusalOf
     refused-words a = refuses 9 (rw (h .accepted, lt-ltb _ _ a)) (omega arith) refl
 
-    module _ (a : 512 ≤ length ws) where
-      -- 11: the journal's length
-      pub refused-journal : 65536 < length (m .journal) → Recovers (envOf p ws) m (outcome (Refused 11) m)
-      unfolding refusalOf
-      refused-journal b = refuses 11 (rw (h .accepted, le-ltb _ _ a, lt-ltb _ _ b)) (omega arith) refl
-
-      -- none of them
-      no-refusal : length (m .journal) ≤ 65536 → refusalOf (envOf p ws) (length (m .journal)) ≡ 0
-      unfolding refusalOf
-      no-refusal b = rw (h .accepted, le-ltb _ _ a, le-ltb _ _ b)
+    -- neither of them
+    no-refusal : 512 ≤ length ws → refusalOf (envOf p ws) ≡ 0
+    unfolding refusalOf
+    no-refusal a = rw (h .accepted, le-ltb _ _ a)
 
 -- ---- what scan answers
+
+-- a refusal is recovery's too, with its number
+refusal-made : (e : Env) (a : Scanned) (v : List ℕ) (m : Machine) {n : ℕ} → reader.answerOf a .number ≡ n → 0 < n → recoverOf e a v m ≡ outcome (Refused n) m
+unfolding recoverOf
+refusal-made e TooLong v m h l = ap (λ (n : ℕ). outcome (Refused n) m) h
+refusal-made e Damaged v m h l = ap (λ (n : ℕ). outcome (Refused n) m) h
+refusal-made e (Found end torn last) v m h l = absurd (omega arith)
 
 -- all that is known then
 pub record Answered (p ws table chip : List ℕ) (answer : Scanned) (v : List ℕ) : Type 0 where
   pub legal : Legal p
   pub places : Places p table
   pub words : 512 ≤ length ws
-  pub size : length chip ≤ 65536
   pub scans : Scans (factsOf p) chip answer v
 
 -- what a table that is the program's own holds are the program's facts, so that the reading is by them
-pub answered : {p ws : List ℕ} {n : ℕ} (table chip : List ℕ) (answer : Scanned) (v : List ℕ) → Legal p × (cellsOf p ≡ n) → Places p table → 512 ≤ length ws
-    → length chip ≤ 65536 → Scans (factsIn n table) chip answer v → Answered p ws table chip answer v
-answered {p} {n = n} table chip answer v h t a l s =
-    let facts : factsIn n table ≡ factsOf p = rw (← h .1) (facts-same p table t) in
-    record { legal = h .0; places = t; words = a; size = l; scans = subst (λ (F : Facts). Scans F chip answer v) facts s }
+pub answered : {p ws : List ℕ} {b : ℕ} (table chip : List ℕ) (answer : Scanned) (v : List ℕ) → Legal p → Places p table → 512 ≤ length ws → b ≡ byte p 0
+    → Scans (factsIn (b + 1) table) chip answer v → Answered p ws table chip answer v
+answered {p} {b = b} table chip answer v h t a e s =
+    let facts : factsIn (b + 1) table ≡ factsOf p = rw e (facts-same p table t) in
+    record { legal = h; places = t; words = a; scans = subst (λ (F : Facts). Scans F chip answer v) facts s }
 
 module _ {p ws table chip : List ℕ} {answer : Scanned} {v : List ℕ} (a : Answered p ws table chip answer v) where
   module _ (r : Regs) (xs ms : List ℕ) where
     -- what recovery makes of it
-    of-answer : Recovers (envOf p ws) (machineOf r xs ms chip) (recoverOf (envOf p ws) answer v (machineOf r xs ms chip))
-    of-answer = reads (no-refusal p ws (machineOf r xs ms chip) (a .legal) (a .words) (a .size)) answer v (a .scans) refl
+    of-answer : {b : Scanned} → answer ≡ b → Recovers (envOf p ws) (machineOf r xs ms chip) (recoverOf (envOf p ws) b v (machineOf r xs ms chip))
+    of-answer e =
+        reads (no-refusal p ws (machineOf r xs ms chip) (a .legal) (a .words)) answer v (a .scans)
+        (ap (λ (b : Scanned). recoverOf (envOf p ws) b v (machineOf r xs ms chip)) (sym e))
 
-    -- 12: the chip is damaged
-    pub refused-damaged : answer ≡ Damaged → Recovers (envOf p ws) (machineOf r xs ms chip) (outcome (Refused 12) (machineOf r xs ms chip))
-    unfolding recoverOf
-    refused-damaged e = rw e at of-answer
+    -- a refusal has scan's number
+    pub refused-chip : {b : Scanned} {n : ℕ} → answer ≡ b → reader.answerOf b .number ≡ n → 0 < n
+        → Recovers (envOf p ws) (machineOf r xs ms chip) (outcome (Refused n) (machineOf r xs ms chip))
+    refused-chip {b} e h l =
+        subst (Recovers (envOf p ws) (machineOf r xs ms chip)) (refusal-made (envOf p ws) b v (machineOf r xs ms chip) h l) (of-answer e)
 
     -- the state is restored
     pub restored : {end torn : ℕ} {last : Commit} {regs : Regs} {marks : List ℕ} → answer ≡ Found end torn last → regs ≡ regsOf end torn last
         → marks ≡ marksBy (envOf p ws) (last .exclude) → Recovers (envOf p ws) (machineOf r xs ms chip) (outcome Restored (machineOf regs v marks chip))
     unfolding recoverOf
-    restored e f g = rw (f, g) (rw e at of-answer)
+    restored e f g = rw (f, g) (of-answer e)
 
   module _ {end torn : ℕ} {last : Commit} (e : answer ≡ Found end torn last) where
     -- the journal's reading, of which it is the answer
-    taken : Taken (factsOf p) chip end torn last v
-    taken = rw e at (a .scans)
+    found : (length chip ≤ 65536) × Taken (factsOf p) chip end torn last v
+    found = rw e at (a .scans)
 
     -- what was found is no longer than the longest chip
     pub found-within : (end ≤ 65536) × (torn ≤ 65536)
-    found-within = let w = within taken in let l = a .size in (omega arith, omega arith)
+    found-within = let w = within (found .1) in let l = found .0 in (omega arith, omega arith)
 
     -- the marks can be made by the last EXCLUDE
     pub found-exclude : Ready (envOf p ws) table × ((last .exclude ≡ 0) ⊎ (isExclude p (last .exclude) ≡ true))
     found-exclude =
-        let k = a .legal in (
+        let k = a .legal in
+        let taken = found .1 in (
           record { cells = k .cells; instructions = k .instructions; excludes = k .excludes; accepted = k .accepted; places = a .places; words = a .words },
           rw (taken .last-is) (last-exclude first (taken .saves) (inl refl) (taken .reading .sound)),
         )

@@ -1,6 +1,6 @@
 // Recovery (document 01: "Every run begins with recovery, on an erased chip too"): the state that a
 // journal holds. `recover_value` takes any program, words, journal and state, and gives the state that the
-// one reading of the journal makes, or a refusal that alters nothing: `Recovers` of specs/Recover.antt.
+// one reading of the journal makes, or a refusal that alters nothing: `RecoverIs` of specs/Recover.antt.
 // What that state is good for is proved in crate `restart`.
 use instruction::byte_at;
 use journal::Commit;
@@ -17,11 +17,10 @@ ghost use mathlib.Core.Path.{_≡_};
 ghost use mathlib.Core.Bool.{true};
 ghost use mathlib.Core.Logic.{_⊎_};
 ghost use Prim.Native.Nat.{_≤_};
-ghost use Rattle.instruction.specs.Bytes.{cellsOf};
 ghost use Rattle.program.specs.Places.{Places, isExclude};
 ghost use Rattle.step.specs.State.{envOf, machineOf};
 ghost use Rattle.step.specs.Ready.{Legal, Ready};
-ghost use Rattle.recovery.specs.Recover.{regsOf, marksBy, outcome, Recovers};
+ghost use Rattle.recovery.specs.Recover.{regsOf, marksBy, outcome, Recovers, RecoverIs};
 
 // The answer: the state is restored, or why not. `answerOf` of specs/Recover.antt gives document 01's number.
 pub enum Recovered {
@@ -79,28 +78,25 @@ fn marks_by(program: &[u8], table: &[u8; 2048], sets: &[u64], x: usize) -> [u8; 
     marks
 }
 
-// The recovery for an accepted program of n cells, which the other refusals may still prevent.
+// The recovery for an accepted program, which the other refusals may still prevent.
 fn recover_legal(
     state: State,
     program: &[u8],
     table: &[u8; 2048],
     sets: &[u64],
     journal: &[u8],
-    n: usize,
 ) -> Recovery
-    requires { ⌜ Legal (now program) × Places (now program) (now table) × (cellsOf (now program) ≡ n) ⌝ }
+    requires { ⌜ Legal (now program) × Places (now program) (now table) ⌝ }
     ensures { λ r. ⌜ Recovers (envOf (now (program .entry)) (now (sets .entry))) (machineOf (state .regs) (state .cells) (state .marks) (now (journal .entry))) (outcome (r .answer) (machineOf (r .state .regs) (r .state .cells) (r .state .marks) (now (journal .entry)))) ⌝ }
 {
     if sets.len() < 512 {
         return refused(state, 9);
     }
-    if 65536 < journal.len() {
-        return refused(state, 11);
-    }
-    let contents = scan(journal, n, table);
+    let contents = scan(journal, byte_at(program, 0), table);
     let answer = contents.answer;
     let cells = contents.values;
     match answer {
+        Scanned::TooLong => refused(state, 11),
         Scanned::Damaged => refused(state, 12),
         Scanned::Found { end, torn, last } => {
             let regs = regs_of(end, torn, last);
@@ -115,15 +111,15 @@ fn recover_legal(
 
 // Recovery, or a refusal that alters nothing; nothing is stored on the journal.
 pub fn recover_value(state: State, program: &[u8], sets: &[u64], journal: &[u8]) -> Recovery
-    ensures { λ r. ⌜ Recovers (envOf (now (program .entry)) (now (sets .entry))) (machineOf (state .regs) (state .cells) (state .marks) (now (journal .entry))) (outcome (r .answer) (machineOf (r .state .regs) (r .state .cells) (r .state .marks) (now (journal .entry)))) ⌝ }
+    ensures { λ r. ⌜ RecoverIs (envOf (now (program .entry)) (now (sets .entry))) (machineOf (state .regs) (state .cells) (state .marks) (now (journal .entry))) (outcome (r .answer) (machineOf (r .state .regs) (r .state .cells) (r .state .marks) (now (journal .entry)))) ⌝ }
 {
     let mut table = blank();
     match examine(program, &mut table) {
         Checked::Refused(number) => refused(state, number),
         Checked::Program {
-            cells,
+            cells: _,
             instructions: _,
             excludes: _,
-        } => recover_legal(state, program, &table, sets, journal, cells as usize),
+        } => recover_legal(state, program, &table, sets, journal),
     }
 }

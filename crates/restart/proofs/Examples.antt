@@ -7,7 +7,7 @@ use Prim.Native.Nat.{ℕ, zero, suc, _+_, _*_, _≤_, _<_}
 use mathlib.Core.Path.{_≡_, refl, ap}
 use mathlib.Core.Bool.{true, false}
 use mathlib.Core.List.{List, [], _∷_, _++_}
-use mathlib.Core.Logic.{inr}
+use mathlib.Core.Logic.{inl, inr}
 use native.Mathlib.Omega.{arith}
 use lib.IntN.{ℤ, pos}
 use lib.ListN.{length, getD, take, drop, replicate, length-replicate}
@@ -24,18 +24,20 @@ use Rattle.journal.specs.Reading.{factsOf}
 use Rattle.journal.specs.Shape.{Shape}
 use Rattle.journal.proofs.Torn.{Trimmed, trimmed-nil, trimmed-snoc}
 use Rattle.journal.proofs.Back.{erased-shape}
-use Rattle.step.specs.State.{Machine, machineOf}
-use Rattle.run.specs.declared.Ended.the-variants.{Stopped, NoReading}
-use Rattle.recovery.specs.Recover.{refusalOf, outcome}
+use Rattle.step.specs.State.{envOf, Machine, machineOf}
+use Rattle.run.specs.Run.{callOf}
+use Rattle.run.specs.declared.Ended.the-variants.{Stopped, NoReading, BufferFull}
+use Rattle.recovery.specs.Recover.{outcome}
 use Rattle.recovery.specs.declared.Recovered.the-variants.{Restored}
 use Rattle.restart.specs.Reference.{zeros, Numbered, refAt, emitted}
-use Rattle.restart.specs.History.{Tally, setBack, System, unused, restored, crashed, Request, outcomeOf, ran, History, begins, recovers, runs, crashed-run}
-use Rattle.restart.specs.Claim.{Plan, Found, distinct, Claim, Chain, one, Erased}
+use Rattle.restart.specs.History.{Tally, setBack, System, unused, restored, crashed, Lent, given, refusedRun, Request, outcomeOf, ran, History, begins, recovers, runs, crashed-run}
+use Rattle.restart.specs.Claim.{Plan, Found, distinct, Claim, Chain, one, more, beside-run, Erased}
 use Rattle.restart.specs.Rows.{Trial, envIn, small, smallSets, trial, firstSave}
-use Rattle.restart.proofs.Outcomes.{valuesOf, values-some, stateOf, outcome-is}
+use Rattle.restart.proofs.Outcomes.{refusalOf, valuesOf, values-some, stateOf, outcome-is}
 use Rattle.restart.proofs.Computing.{computing}
-use Rattle.restart.proofs.Rows.{saveOf, tornBytes, cut-shape}
+use Rattle.restart.proofs.Shaped.{shape-by}
 use Rattle.restart.proofs.Theorem.{demand-3}
+use Rattle.restart.proofs.Hosts.{host, called, host-chain, host-stops}
 
 -- ---- plans
 
@@ -120,6 +122,14 @@ small-found = record {
 abbrev pub smallReadings : List ℤ
 smallReadings = trial 60 1000 .readings
 
+-- the checkpoint of cell 0 behind its CHECKPOINT
+abbrev pub saveOf : (value readings outputs : ℕ) → Checkpoint
+saveOf v n m = record { records = record { cell = 0; value = v } ∷ []; commit = record { place = 17; exclude = 15; readings = n; outputs = m } }
+
+-- the 13 bytes of the second one that are stored
+abbrev pub tornBytes : List ℕ
+tornBytes = take 13 (image (saveOf 12 2 2))
+
 -- after the first recovery
 unfoldable pub smallBegun : System
 smallBegun = begun (trial 60 45)
@@ -147,7 +157,9 @@ small-cut = crashed-run (beginning (trial 60 45) refl) refl (request (trial 60 4
 
 small-taken : Lists (trial 60 1000) smallTaken
 unfolding computing smallBegun smallCut smallTaken
-small-taken = recovery (trial 60 1000) small-cut (saveOf 5 1 1 ∷ []) tornBytes cut-shape refl torn-trimmed
+small-taken =
+    recovery (trial 60 1000) small-cut (saveOf 5 1 1 ∷ []) tornBytes
+    (shape-by (factsOf small) (smallCut .machine .journal) (saveOf 5 1 1 ∷ []) (saveOf 12 2 2) 13 refl) refl torn-trimmed
 
 -- these calls are a history
 pub small-history : History small smallReadings 60 0 (Erased 60) (λ w. w ≡ smallSets) smallDone
@@ -255,7 +267,7 @@ uncut-stop = refl
 -- the run is a chain that is given enough
 pub ending-chain : Chain ending [] zeros 60 0 (λ w. w ≡ endingSets) 5 endingBegun 125 (Stopped ended) endingDone
 unfolding computing endingSets endingBegun endingDone
-ending-chain = one (request endingTrial) (record { words = refl; readings = inr (omega arith); room = omega arith; accepted = tt })
+ending-chain = one (request endingTrial) 125 (refl, record { steps = omega arith; reads = inr (inl (omega arith)); gives = inl (omega arith) })
 
 -- demand 3 of both systems
 module _ (s : System) (h : Lists endingTrial s) where
@@ -277,3 +289,118 @@ ending-uses =
       c .steps 5 uncut,
       ending-claim endingBegun ending-begun .stops refl 5 uncut 125 (Stopped ended) endingDone ending-chain (omega arith),
     )
+
+-- ---- hosts that lend little
+
+-- READ 0, CHECKPOINT, EMIT 0, READ 0, EMIT 0, EMIT 0, END, with one cell
+abbrev pub echo : List ℕ
+echo = 0x00 ∷ 0x07 ∷ 0 ∷ 0x0E ∷ 0x08 ∷ 0 ∷ 0x07 ∷ 0 ∷ 0x08 ∷ 0 ∷ 0x08 ∷ 0 ∷ 0x01 ∷ []
+
+unfoldable pub echoSets : List ℕ
+echoSets = replicate 512 0
+
+echoDead : List ℕ
+echoDead = inFour (1 ∷ 0 ∷ 0 ∷ 1 ∷ 0 ∷ 0 ∷ 1 ∷ []) ++ replicate 2020 0
+
+pub echo-plan : Plan echo
+unfolding computing
+echo-plan = plan-by echo refl refl
+
+pub echo-found : Found echo echoSets
+unfolding computing echoSets echoDead
+echo-found = record {
+  lent = echoSets;
+  dead-lent = echoDead;
+  dead = echoDead;
+  cells = 1;
+  instructions = 7;
+  excludes = 0;
+  analyses = analyses-by echo echoDead echoSets refl refl;
+}
+
+-- a chip of 20 bytes, which one save fills, and a run with the budget 1,000 that is lent both readings and one place
+abbrev pub echoTrial : Trial
+echoTrial = record { program = echo; words = echoSets; chip = 20; readings = pos 5 ∷ pos 7 ∷ []; budget = 1000; places = pos 0 ∷ [] }
+
+abbrev pub echoReadings : List ℤ
+echoReadings = echoTrial .readings
+
+unfoldable pub echoBegun : System
+echoBegun = begun echoTrial
+
+echo-begun : Lists echoTrial echoBegun
+unfolding computing echoSets echoBegun
+echo-begun = beginning echoTrial refl
+
+-- the uncut run stops after 7 commands
+pub echo-stop : refAt echo echoReadings zeros 7 .stop ≡ ended
+unfolding computing
+echo-stop = refl
+
+-- a host that lends one reading, one place and a budget of 1 a call: 47 calls are a chain of 47 steps, and the last answers the stop
+pub least-facts : let last = outcomeOf echo echoReadings (called echo echoReadings 20 echoSets 1 46 echoBegun .machine) (host echo echoReadings 20 echoSets 1) .ended in
+    Chain echo echoReadings zeros 20 0 (λ w. w ≡ echoSets) 7 echoBegun 47 last (called echo echoReadings 20 echoSets 1 47 echoBegun)
+    × (last ≡ Stopped (refAt echo echoReadings zeros 7 .stop))
+unfolding echoBegun
+least-facts = (
+  host-chain echo echoReadings 20 echoSets 1 7 46 echoBegun,
+  host-stops echo echoReadings 20 echoSets 1 echo-plan echo-found 7 46 echoBegun echo-begun refl (λ e. omega (arith, echo-stop)) (omega arith),
+)
+
+-- three runs with the budget 1,000 and one place each, and a refused call behind the first
+unfoldable pub echoFirst : System
+echoFirst = ran echo echoReadings echoBegun (request echoTrial)
+
+abbrev own : Lent
+own = record { state = true; journal = true; other = spoiled [] }
+
+unfoldable pub echoRefused : System
+echoRefused = refusedRun echoFirst own (callOf (envOf [] []) [] 9 (given own (echoFirst .machine)) [])
+
+unfoldable pub echoSecond : System
+echoSecond = ran echo echoReadings echoRefused (request echoTrial)
+
+unfoldable pub echoDone : System
+echoDone = ran echo echoReadings echoSecond (request echoTrial)
+
+-- two runs end for want of a place; in all three outputs are given, and the third run stops
+pub echo-facts : (outcomeOf echo echoReadings (echoBegun .machine) (request echoTrial) .ended ≡ BufferFull)
+    × (outcomeOf echo echoReadings (echoRefused .machine) (request echoTrial) .ended ≡ BufferFull)
+    × (echoDone .outputs ≡ output 0 (pos 5) ∷ output 1 (pos 7) ∷ output 2 (pos 7) ∷ [])
+    × (echoDone .steps ≡ 27)
+unfolding computing echoSets echoBegun echoFirst echoRefused echoSecond echoDone
+echo-facts = (refl, refl, refl, refl)
+
+-- the first two are equipped for one step, since they have one place; the third has places for all outputs that are left, and so for its whole budget
+pub echo-chain : Chain echo echoReadings zeros 20 0 (λ w. w ≡ echoSets) 7 echoBegun (1 + 1 + 1000) (Stopped ended) echoDone
+unfolding computing echoSets echoBegun echoFirst echoRefused echoSecond echoDone
+echo-chain =
+    more
+    (more
+    (beside-run
+    (one (request echoTrial) 1 (refl, record { steps = omega arith; reads = inr (inl (omega arith)); gives = inr (omega arith) }))
+    (envOf [] []) own [] 9 [] (λ z. z))
+    (request echoTrial) 1 (refl, record { steps = omega arith; reads = inr (inl (omega arith)); gives = inr (omega arith) }))
+    (request echoTrial) 1000 (refl, record { steps = omega arith; reads = inr (inl (omega arith)); gives = inl (omega arith) })
+
+-- and the claim says that it answers the stop
+pub echo-uses : Stopped ended ≡ Stopped (refAt echo echoReadings zeros 7 .stop)
+unfolding echoBegun
+echo-uses =
+    demand-3 echo echo-plan echoReadings 20 echoSets echo-found echoBegun echo-begun
+    .stops refl 7 (λ e. omega (arith, echo-stop)) 1002 (Stopped ended) echoDone echo-chain (omega arith)
+
+-- ---- a plan for a host in C
+
+-- EMIT 0, EMIT 0, END, with one cell
+abbrev pub twice : List ℕ
+twice = 0x00 ∷ 0x08 ∷ 0 ∷ 0x08 ∷ 0 ∷ 0x01 ∷ []
+
+pub twice-plan : Plan twice
+unfolding computing
+twice-plan = plan-by twice refl refl
+
+-- the uncut run stops after 3 commands
+pub twice-stop : refAt twice [] zeros 3 .stop ≡ ended
+unfolding computing
+twice-stop = refl

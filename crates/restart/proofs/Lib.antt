@@ -17,6 +17,8 @@ mod Saves
 mod Commits
 mod Lists
 mod Outcomes
+mod Testing
+mod Shaped
 mod Computing
 pub mod Rows
 pub mod Examples
@@ -30,3 +32,4 @@ pub mod Runs
 pub mod Upheld
 pub mod Refusing
 mod Reaching
+pub mod Hosts

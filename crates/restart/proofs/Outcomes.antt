@@ -3,11 +3,15 @@
 -- Assumes nothing.
 use Prim.Native.Nat.{ℕ, _≤_, _<_}
 use mathlib.Core.Path.{_≡_, refl, _∙_, ap}
+use mathlib.Core.Bool.{cond}
 use mathlib.Core.List.{List}
 use native.Mathlib.Nat.{zero-add}
 use native.Mathlib.Omega.{arith}
 use lib.ListN.{length, getD}
-use Rattle.journal.specs.declared.Scanned.the-variants.{Damaged, Found}
+use lib.Dec.{eqb, ltb}
+use borrow.Author.Tests.{eqb-true, eqb-false, ltb-false}
+use Rattle.program.proofs.Tests.{bool-cases}
+use Rattle.journal.specs.declared.Scanned.the-variants.{TooLong, Damaged, Found}
 use Rattle.journal.specs.Format.{Checkpoint, images}
 use Rattle.journal.specs.Reading.{factsOf, first, lastOf, savedValue}
 use Rattle.journal.specs.Answer.{Taken}
@@ -16,9 +20,23 @@ use Rattle.journal.proofs.Torn.{Trimmed}
 use Rattle.journal.proofs.Back.{shape-whole, shape-reads, read-shape, read-back, not-damaged}
 use Rattle.journal.proofs.Fixed.{shape-found}
 use Rattle.step.specs.State.{Env, Machine, machineOf}
-use Rattle.recovery.specs.Recover.{refusalOf, regsOf, marksBy, Outcome, outcome, recoverOf, Recovers, refuses, reads}
+use Rattle.recovery.specs.Recover as recovery
+use Rattle.recovery.specs.Recover.{regsOf, marksBy, Outcome, outcome, recoverOf, Recovers, refuses, reads}
 use Rattle.recovery.specs.declared.Recovered.the-variants.{Restored}
 use Rattle.step.proofs.Tables.{tabulated, tabulated-length, tabulated-at}
+
+-- the refusal of recovery with so many bytes of chip that are not damaged, 0 if there is none: its tests, and then the chip's length
+abbrev pub refusalOf : Env → (len : ℕ) → ℕ
+refusalOf e len = cond (eqb (recovery.refusalOf e) 0) (cond (ltb 65536 len) 11 0) (recovery.refusalOf e)
+
+-- where there is none, the chip is read, and is not too long
+accepted-chip : (e : Env) (len : ℕ) → refusalOf e len ≡ 0 → (recovery.refusalOf e ≡ 0) × (len ≤ 65536)
+accepted-chip e len h =
+    bool-cases (eqb (recovery.refusalOf e) 0)
+    (λ a. bool-cases (ltb 65536 len)
+    (λ b. let z : _≡_ {A = ℕ} 11 0 = rw (a, b) at h in absurd (omega arith))
+    (λ b. (eqb-true _ _ a, ltb-false _ _ b)))
+    (λ a. absurd (eqb-false _ _ a (rw a at h)))
 
 -- the values are those saved
 pub record Values (js : List Checkpoint) (values : List ℕ) : Type 0 where
@@ -66,7 +84,8 @@ module _ (e : Env) (m : Machine) (js : List Checkpoint) where
         cells = s .size;
         values-are = s .values-are;
       } in
-      reads accepted (Found (length (images js)) (length q) (lastOf first js)) v taken refl
+      let chip = accepted-chip e (length (m .journal)) accepted in
+      reads (chip .0) (Found (length (images js)) (length q) (lastOf first js)) v (chip .1, taken) refl
 
   module _ (q : List ℕ) (shape : Shape (factsOf (e .program)) (m .journal) js q) (accepted : refusalOf e (length (m .journal)) ≡ 0) where
     -- there is an outcome
@@ -78,13 +97,14 @@ module _ (e : Env) (m : Machine) (js : List Checkpoint) where
     -- each is accepted, and is such a state
     pub outcome-made : (r : Outcome) → Recovers e m r → Made e (m .journal) js q r
     unfolding recoverOf
-    outcome-made r (refuses n z l is) = absurd (omega arith)
-    outcome-made r (reads z Damaged values s is) = absurd (not-damaged shape (s .0))
-    outcome-made r (reads z (Found end torn last) values s is) =
+    outcome-made r (refuses n z l is) = absurd (omega (arith, accepted-chip e (length (m .journal)) accepted .0))
+    outcome-made r (reads z TooLong values s is) = absurd (omega (arith, s .0, accepted-chip e (length (m .journal)) accepted .1))
+    outcome-made r (reads z Damaged values s is) = absurd (not-damaged shape (s .1))
+    outcome-made r (reads z (Found end torn last) values (most, s) is) =
         let g = read-shape shape (s .reading) in
         let x : end ≡ length (images js) = s .end-is ∙ ap (λ (l : List Checkpoint). length (images l)) (g .0) in
         let y : last ≡ lastOf first js = s .last-is ∙ ap (lastOf first) (g .0) in
-        let f = shape-found (Found end torn last) values shape s in
+        let f = shape-found (Found end torn last) values most shape (most, s) in
         let same = f .2 in
         let t : torn ≡ f .0 = cc in
         record {

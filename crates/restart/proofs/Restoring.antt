@@ -2,14 +2,13 @@
 -- Assumes nothing.
 use Prim.Native.Nat.{ℕ, _+_, _*_, _^_, _≤_, _<_}
 use mathlib.Core.Path.{_≡_, refl, sym, _∙_, ap, subst}
-use mathlib.Core.Bool.{cond}
 use mathlib.Core.List.{List, _++_}
 use mathlib.Core.Logic.{⊎-elim}
 use native.Mathlib.Omega.{arith}
 use lib.IntN.{ℤ}
 use lib.ListN.{length, getD, replicate, length-append, List·getD-eq-default}
-use lib.Dec.{eqb, ltb}
-use borrow.Author.Tests.{le-ltb, ltb-false}
+use lib.Dec.{eqb}
+use borrow.Author.Tests.{le-ltb}
 use Rattle.cellset.proofs.Bits.{le-or-lt}
 use Rattle.instruction.specs.Bytes.{cellsOf}
 use Rattle.program.specs.Places.{excludeNumber}
@@ -17,21 +16,24 @@ use Rattle.program.proofs.Tests.{bool-cases}
 use Rattle.marks.specs.Marks.{recoveredMarks}
 use Rattle.marks.proofs.Laws.{recovered-out, recovered-length, recovered-small}
 use Rattle.journal.specs.declared.Commit.{Commit}
+use Rattle.journal.specs.declared.Scanned.the-variants.{TooLong, Damaged, Found}
 use Rattle.journal.specs.Format.{Checkpoint, images}
 use Rattle.journal.specs.Reading.{Facts, factsOf, first, Rising, lastOf, savedValue}
 use Rattle.journal.specs.Shape.{Shape}
+use Rattle.journal.proofs.Back.{not-damaged}
 use Rattle.step.specs.State.{envOf, Machine}
 use Rattle.step.specs.Ready.{Good}
 use Rattle.step.proofs.Facts.{facts-sound, zero-from, marks-from}
-use Rattle.recovery.specs.Recover.{refusalOf, included, marksBy, Outcome, Recovers}
-use Rattle.recovery.specs.declared.Recovered.{Recovered}
+use Rattle.recovery.specs.Recover as recovery
+use Rattle.recovery.specs.Recover.{included, marksBy, Outcome, recoverOf, Recovers}
 use Rattle.recovery.specs.declared.Recovered.the-variants.{Restored, Refused}
+use Rattle.recovery.proofs.Laws.{restored-apart, restored-size}
 use Rattle.restart.specs.Reference.{Frame, refAt}
 use Rattle.restart.specs.History.{Tally, setBack}
 use Rattle.restart.specs.Claim.{Plan, Safe, Resumes}
 use Rattle.restart.proofs.Lists.{included-zero, included-length}
 use Rattle.restart.proofs.Outcomes as outcomes
-use Rattle.restart.proofs.Outcomes.{Values, stateOf, outcome-made}
+use Rattle.restart.proofs.Outcomes.{refusalOf, Values, stateOf, outcome-made}
 use Rattle.restart.proofs.Invariant.{Small, idle, Inv}
 use Rattle.restart.proofs.Saves.{last-has, saved-has}
 use Rattle.restart.proofs.Commits.{last-exclude, last-start}
@@ -133,26 +135,15 @@ module _ (p words : List ℕ) (plan : Plan p) (safe : Safe p words) (chip : List
 
 -- ---- the outcome
 
--- no answer is both accepted and refused
-restored-apart : {a : Recovered} {n : ℕ} → a ≡ Restored → a ≡ Refused n → ⊥
-restored-apart x y = let z : _≡_ {A = ℕ} 0 1 = cc in omega arith
-
 module _ (p words : List ℕ) (plan : Plan p) (safe : Safe p words) (m : Machine) (js : List Checkpoint) (q : List ℕ) (shape : Shape (factsOf p) (m .journal) js q) where
-  -- only a journal that is too long is refused before it is read
-  refusal : (len : ℕ) → refusalOf (envOf p words) len ≡ cond (ltb 65536 len) 11 0
-  unfolding refusalOf
-  refusal len = rw (plan .legal .accepted, le-ltb (length words) 512 (safe .enough))
+  -- the journal is read
+  read : recovery.refusalOf (envOf p words) ≡ 0
+  unfolding recovery.refusalOf
+  read = rw (plan .legal .accepted, le-ltb (length words) 512 (safe .enough))
 
-  -- and any other is read
+  -- and not refused if it is not too long
   readable : length (m .journal) ≤ 65536 → refusalOf (envOf p words) (length (m .journal)) ≡ 0
-  readable h = refusal (length (m .journal)) ∙ rw (le-ltb 65536 (length (m .journal)) h)
-
-  -- one that is read is not too long
-  not-long : refusalOf (envOf p words) (length (m .journal)) ≡ 0 → length (m .journal) ≤ 65536
-  not-long z =
-      bool-cases (ltb 65536 (length (m .journal)))
-      (λ b. let y : _≡_ {A = ℕ} 0 11 = sym z ∙ refusal (length (m .journal)) ∙ rw b in absurd (omega arith))
-      (λ b. ltb-false _ _ b)
+  readable h = rw (read, le-ltb 65536 (length (m .journal)) h)
 
   -- there is an outcome
   pub outcome-some : length (m .journal) ≤ 65536 → (r : Outcome) × Recovers (envOf p words) m r
@@ -164,19 +155,20 @@ module _ (p words : List ℕ) (plan : Plan p) (safe : Safe p words) (m : Machine
 
   -- and on no length is the journal damaged
   pub outcome-sound : (r : Outcome) → Recovers (envOf p words) m r → ¬ (r .answer ≡ Refused 12)
-  outcome-sound r (Recovers.refuses n z l e) d =
-      let k : Refused n ≡ Refused 12 = sym (ap (λ (o : Outcome). o .answer) e) ∙ d in
-      let x : n ≡ 12 = cc in
-      bool-cases (ltb 65536 (length (m .journal)))
-      (λ b. let y : n ≡ 11 = sym z ∙ refusal (length (m .journal)) ∙ rw b in omega arith)
-      (λ b. let y : n ≡ 0 = sym z ∙ refusal (length (m .journal)) ∙ rw b in omega arith)
-  outcome-sound r (Recovers.reads z a values s e) d = restored-apart (outcome-restored (not-long z) r (Recovers.reads z a values s e)) d
+  unfolding recoverOf
+  outcome-sound r (Recovers.refuses n z l e) d = omega (arith, read)
+  outcome-sound r (Recovers.reads z TooLong values s e) d =
+      let k : Refused 11 ≡ Refused 12 = sym (ap (λ (o : Outcome). o .answer) e) ∙ d in
+      let x : _≡_ {A = ℕ} 11 12 = cc in
+      omega arith
+  outcome-sound r (Recovers.reads z Damaged values s e) d = not-damaged shape (s .1)
+  outcome-sound r (Recovers.reads z (Found end torn last) values s e) d = restored-apart (ap (λ (o : Outcome). o .answer) e) d
 
   -- an accepted one is at the tally of the last whole checkpoint
   pub restored-inv : (ρ : List ℤ) (f₀ : Frame) (n : ℕ) (t : Tally) → Resumes p js (refAt p ρ f₀ (t .committed)) → t .committed ≤ t .highest
       → length (m .journal) ≡ n → (r : Outcome) → Recovers (envOf p words) m r → r .answer ≡ Restored → Inv p ρ f₀ n (r .machine) (setBack t) 0
-  restored-inv ρ f₀ n t h c l r (Recovers.refuses k z b e) a = absurd (restored-apart a (ap (λ (o : Outcome). o .answer) e))
-  restored-inv ρ f₀ n t h c l r (Recovers.reads z a values s e) _ =
-      let g = outcome-made (envOf p words) m js q shape z r (Recovers.reads z a values s e) in
+  restored-inv ρ f₀ n t h c l r x a =
+      let most = restored-size (envOf p words) m r x a in
+      let g = outcome-made (envOf p words) m js q shape (readable most) r x in
       subst (λ (o : Outcome). Inv p ρ f₀ n (o .machine) (setBack t) 0) (sym (g .is))
-      (state-inv p words plan safe (m .journal) js (g .rest) (g .shape) (g .values) (g .saved) ρ f₀ n t h c l (not-long z))
+      (state-inv p words plan safe (m .journal) js (g .rest) (g .shape) (g .values) (g .saved) ρ f₀ n t h c l most)

@@ -1,223 +1,167 @@
--- Every row of specs/Rows.antt holds: what computation shows of a row (`Computes`) gives what the row claims (`row-by`), and `rows-hold` computes all rows.
+-- Every row of specs/Rows.antt holds: a test that computes (`rowRight`), a lemma that turns it into what the row claims (`row-right`), and one `refl` over the table
+-- (`rows-hold`). Another row changes the table alone.
 -- Assumes nothing.
-use Prim.Native.Nat.{ℕ, _+_, _^_, _≤_, _<_}
+use Prim.Native.Nat.{ℕ, suc, _-_, _<_}
 use mathlib.Core.Path.{_≡_, refl, sym, _∙_, ap, subst}
-use mathlib.Core.Bool.{true}
-use mathlib.Core.List.{List, [], _∷_, _++_}
-use mathlib.Core.Logic.{inr}
+use mathlib.Core.Bool.{Bool, true, _&&_}
+use mathlib.Core.List.{List, [], _∷_, map}
 use native.Mathlib.Omega.{arith}
-use lib.ListN.{length, getD, take, drop, replicate, length-replicate, getD-replicate}
+use lib.IntN.{pos}
+use lib.ListN.{length, getD, take, replicate, length-take}
 use lib.Seq.{ext-getD}
+use lib.Dec.{eqb}
+use borrow.Author.Tests.{eqb-true}
 use Rattle.word.specs.Word.{bitsOf}
-use Rattle.word.specs.Bytes.{bytesOf}
-use Rattle.instruction.specs.Bytes.{lengthOf}
-use Rattle.program.specs.Starts.{startsFrom, starts, among}
-use Rattle.program.specs.Places.{opcodeBefore}
-use Rattle.analysis.proofs.Table.{rowRight, row-holds}
-use Rattle.journal.specs.declared.Commit.{Commit}
-use Rattle.journal.specs.Format.{Checkpoint, fieldsImage, recordsImage, image, images}
-use Rattle.journal.specs.Reading.{Facts, factsOf, first, Absent, Once, Sound, Rising, lastOf, savedIn, savedValue}
+use Rattle.program.proofs.Tests.{and-both}
+use Rattle.execution.specs.Effects.{effectOf, cellsIn}
+use Rattle.analysis.proofs.Table as analysis
+use Rattle.analysis.proofs.Table.{eachBelow, below-at}
+use Rattle.marks.specs.Marks.{byteOf, markOf, excluded}
+use Rattle.marks.proofs.Laws.{mark-byte}
+use Rattle.journal.specs.Format.{Checkpoint, image}
+use Rattle.journal.specs.Reading.{factsOf, first}
 use Rattle.journal.specs.Shape.{Shape}
-use Rattle.journal.proofs.Back.{erased-shape}
-use Rattle.step.specs.State.{Env, Machine, machineOf}
+use Rattle.step.specs.State.{Env, Machine, machineOf, checkpointAt}
 use Rattle.run.specs.Run as run
 use Rattle.run.specs.declared.Ended.{Ended}
 use Rattle.run.specs.declared.Ended.the-variants.{NoReading, Spent}
-use Rattle.recovery.specs.Recover.{refusalOf, regsOf, included, marksBy, Outcome, outcome}
+use Rattle.recovery.specs.Recover.{regsOf, Outcome, outcome}
 use Rattle.recovery.specs.declared.Recovered.the-variants.{Restored}
 use Rattle.restart.specs.Reference.{zeros, numberedFrom, stays, refAt, emitted}
 use Rattle.restart.specs.History.{wrote}
-use Rattle.restart.specs.Rows.{Trial, envIn, ranFrom, AfterRecovery, AfterRun, Row, setIs, outputsAre, chipBegins, chipIs, cutAfter, markBecomes, effectIs, Holds, Hold, small, rows}
+use Rattle.restart.specs.Rows.{Trial, envIn, ranFrom, AfterRecovery, AfterRun, Row, setIs, outputsAre, chipBegins, chipIs, cutAfter, markBecomes, effectIs, Holds, Hold, rows}
 use Rattle.restart.proofs.Frames.{emitted-stays}
+use Rattle.restart.proofs.Testing.{allTrue, true-at, sameNumbers, numbers-same, sameOutputs, outputs-same, sameEnd, end-same, sameEffect, effect-same}
+use Rattle.restart.proofs.Shaped.{shaped, shape-by, savesIn}
+use Rattle.restart.proofs.Outcomes.{refusalOf, Values, valuesOf, values-some, stateOf, outcome-some, outcome-made}
 use Rattle.restart.proofs.Computing.{computing}
-use Rattle.restart.proofs.Outcomes.{Values, stateOf, outcome-some, outcome-made}
 
 -- ---- recovery
 
--- what holds of all machines that are made of a chip's checkpoints, holds after recovery with it
-recovered-by : (e : Env) (chip : List ℕ) (js : List Checkpoint) (q : List ℕ) → Shape (factsOf (e .program)) chip js q → refusalOf e (length chip) ≡ 0
-    → (Q : Machine → Type 0) → ((k : ℕ) → k ≤ length q → (v : List ℕ) → Values js v → Q (stateOf e js k v chip)) → AfterRecovery e chip Q
-recovered-by e chip js q shape accepted Q h m is =
-    let s = subst (λ (l : List ℕ). Shape (factsOf (e .program)) l js q) (sym is) shape in
-    let z = subst (λ (l : List ℕ). refusalOf e (length l) ≡ 0) (sym is) accepted in (
-      outcome-some e m js q s z,
+-- the values of checkpoints are those computed
+values-same : (js : List Checkpoint) (v : List ℕ) → Values js v → v ≡ valuesOf js
+values-same js v h =
+    let w = values-some js in
+    ext-getD 0 v (valuesOf js) (h .size ∙ sym (w .size))
+    (λ c l. let k : c < 256 = omega (arith, l, h .size) in h .values-are c k ∙ sym (w .values-are c k))
+
+-- how many bytes of the checkpoint that a machine is saving are stored
+abbrev tornOf : Machine → ℕ
+tornOf m = m .regs .saving - 1
+
+-- recovery with the chip of a machine that was cut is accepted; the chip has the checkpoints that are read off it and the torn bytes of the one that m had begun; and what
+-- recovery leaves passes the test, however many torn bytes it finds, since it takes those that end in FF for erased
+abbrev recoveryTests : Env → Machine → (Machine → Bool) → List Bool
+recoveryTests e m test =
+    let js = savesIn (m .journal) in
+    eqb (refusalOf e (length (m .journal))) 0
+    ∷ shaped (factsOf (e .program)) (m .journal) js (checkpointAt (e .program) m) (tornOf m)
+    ∷ eachBelow (λ k. test (stateOf e js k (valuesOf js) (m .journal))) (suc (tornOf m))
+    ∷ []
+
+recovery-by : (e : Env) (m : Machine) (test : Machine → Bool) (Q : Machine → Type 0) → ((m′ : Machine) → test m′ ≡ true → Q m′)
+    → allTrue (recoveryTests e m test) ≡ true → AfterRecovery e (m .journal) Q
+recovery-by e m test Q right h m′ is =
+    let F = factsOf (e .program) in
+    let chip = m .journal in
+    let js = savesIn chip in
+    let s = checkpointAt (e .program) m in
+    let q = take (tornOf m) (image s) in
+    let t = true-at (recoveryTests e m test) h in
+    let shape = subst (λ (l : List ℕ). Shape F l js q) (sym is) (shape-by F chip js s (tornOf m) (t 1)) in
+    let accepted = subst (λ (l : List ℕ). refusalOf e (length l) ≡ 0) (sym is) (eqb-true _ _ (t 0)) in (
+      outcome-some e m′ js q shape accepted,
       λ r x.
-          let o = outcome-made e m js q s z r x in
+          let o = outcome-made e m′ js q shape accepted r x in
           let k = length (o .rest) in
-          let i : r ≡ outcome Restored (stateOf e js k (o .values) chip) = o .is ∙ ap (λ (l : List ℕ). outcome Restored (stateOf e js k (o .values) l)) is in
-          (ap (λ (o : Outcome). o .answer) i, subst (λ (o : Outcome). Q (o .machine)) (sym i) (h k (o .less) (o .values) (o .saved))),
+          let v = values-same js (o .values) (o .saved) in
+          let i : r ≡ outcome Restored (stateOf e js k (valuesOf js) chip) = o .is ∙ (λ i. outcome Restored (stateOf e js k (v i) (is i))) in
+          let l : k < suc (tornOf m) = omega (arith, o .less, length-take (tornOf m) (image s)) in
+          let f : ℕ → Bool = λ k. test (stateOf e js k (valuesOf js) chip) in
+          (ap (λ (o : Outcome). o .answer) i, subst (λ (o : Outcome). Q (o .machine)) (sym i) (right _ (below-at f (suc (tornOf m)) k (t 2) l))),
     )
 
--- all cells 0
-unfoldable clear : List ℕ
-clear = replicate 256 0
+-- ---- runs
 
--- the machine that recovery leaves on an erased chip
-unfoldable startOf : Trial → Machine
-startOf t = machineOf (regsOf 0 0 first) clear included (replicate (t .chip) 0xFF)
+-- a machine with an erased chip, which has begun nothing
+abbrev unwritten : ℕ → Machine
+unwritten n = machineOf (regsOf 0 0 first) [] [] (replicate n 0xFF)
 
--- values of no checkpoint are all 0
-values-clear : (v : List ℕ) → Values [] v → v ≡ clear
-unfolding clear savedValue
-values-clear v h =
-    ext-getD 0 v (replicate 256 0) (h .size ∙ sym (length-replicate {A = ℕ} 256 0))
-    (λ c l. let k : c < 256 = omega (arith, l, h .size) in h .values-are c k ∙ sym (getD-replicate 256 c 0 0 k))
+-- from m the run ends with x, and what it leaves passes the test
+abbrev ends : Trial → Ended → (Machine → run.Outcome → Bool) → Machine → Bool
+ends t x test m = sameEnd (ranFrom t m .ended) x && test m (ranFrom t m)
 
--- recovery is not refused, and from that machine the run ends with x and Q holds
-abbrev Ran : Trial → Ended → (Machine → run.Outcome → Type 0) → Type 0
-Ran t x Q = (refusalOf (envIn t) (t .chip) ≡ 0) × (ranFrom t (startOf t) .ended ≡ x) × Q (startOf t) (ranFrom t (startOf t))
+-- so it is after recovery on an erased chip
+abbrev runRight : Trial → Ended → (Machine → run.Outcome → Bool) → Bool
+runRight t x test = allTrue (recoveryTests (envIn t) (unwritten (t .chip)) (ends t x test))
 
--- then so it is after recovery with any state
-run-by : (t : Trial) (x : Ended) (Q : Machine → run.Outcome → Type 0) → Ran t x Q → AfterRun t x Q
-unfolding images lastOf marksBy startOf
-run-by t x Q h =
-    let e = envIn t in
-    let chip : List ℕ = replicate (t .chip) 0xFF in
-    let P : Machine → Type 0 = λ m. (ranFrom t m .ended ≡ x) × Q m (ranFrom t m) in
-    let z : refusalOf e (length chip) ≡ 0 = ap (refusalOf e) (length-replicate {A = ℕ} (t .chip) 0xFF) ∙ h .0 in
-    recovered-by e chip [] [] (erased-shape (t .chip)) z P λ k l v s.
-    let d : 0 ≡ k = omega arith in
-    let c = sym (values-clear v s) in
-    let i : startOf t ≡ stateOf e [] k v chip = λ i. machineOf (regsOf 0 (d i) first) (c i) included chip in
-    subst P i (h .1, h .2)
+run-by : (t : Trial) (x : Ended) (test : Machine → run.Outcome → Bool) (Q : Machine → run.Outcome → Type 0)
+    → ((m : Machine) (o : run.Outcome) → test m o ≡ true → Q m o) → runRight t x test ≡ true → AfterRun t x Q
+run-by t x test Q right h =
+    recovery-by (envIn t) (unwritten (t .chip)) (ends t x test) (λ m. (ranFrom t m .ended ≡ x) × Q m (ranFrom t m))
+    (λ m b. let y = and-both (sameEnd (ranFrom t m .ended) x) (test m (ranFrom t m)) b in (end-same _ _ (y .0), right _ _ (y .1)))
+    h
 
--- ---- what computation shows
+-- ---- rows
 
--- a chip that has the shape, and what its checkpoints give cell c and both counts
-record Torn (F : Facts) (chip : List ℕ) (c v i j : ℕ) : Type 0 where
-  saves : List Checkpoint
-  rest : List ℕ
-  shape : Shape F chip saves rest
-  cell : c < 256
-  value : savedValue c saves 0 ≡ v
-  readings : lastOf first saves .readings ≡ i
-  outputs : lastOf first saves .outputs ≡ j
+-- cell c has the value v, and the counts are i and j
+abbrev takesUp : (c v i j : ℕ) → Machine → List Bool
+takesUp c v i j m = eqb (getD (m .cells) c 0) v ∷ eqb (m .regs .readings) i ∷ eqb (m .regs .outputs) j ∷ []
 
--- of a row
-abbrev Computes : Row → Type 0
-Computes (setIs r) = rowRight r ≡ true
-Computes (outputsAre t n vs) =
-    Ran t NoReading (λ m o. wrote m o ≡ numberedFrom 0 vs)
-    × (emitted (t .program) (t .readings) zeros 0 n ≡ numberedFrom 0 vs)
-    × (stays (t .program) (t .readings) (refAt (t .program) (t .readings) zeros n) ≡ true)
-Computes (chipBegins t bytes) = Ran t NoReading (λ m o. take (length bytes) (o .machine .journal) ≡ bytes)
-Computes (chipIs t bytes) = Ran t NoReading (λ m o. o .machine .journal ≡ bytes)
-Computes (cutAfter t n c v i j) =
-    Ran t Spent (λ m o.
-    (o .machine .regs .write ≡ n)
-    × (refusalOf (envIn t) (length (o .machine .journal)) ≡ 0)
-    × Torn (factsOf (t .program)) (o .machine .journal) c (bitsOf v) i j)
-Computes (markBecomes k de ro after) = Holds (markBecomes k de ro after)
-Computes (effectIs i vs e) = Holds (effectIs i vs e)
+-- the test of a row
+abbrev pub rowRight : Row → Bool
+rowRight (setIs r) = analysis.rowRight r
+rowRight (outputsAre t n vs) =
+    runRight t NoReading (λ m o. sameOutputs (wrote m o) (numberedFrom 0 vs))
+    && (sameOutputs (emitted (t .program) (t .readings) zeros 0 n) (numberedFrom 0 vs)
+    && stays (t .program) (t .readings) (refAt (t .program) (t .readings) zeros n))
+rowRight (chipBegins t bytes) = runRight t NoReading (λ m o. sameNumbers (take (length bytes) (o .machine .journal)) bytes)
+rowRight (chipIs t bytes) = runRight t NoReading (λ m o. sameNumbers (o .machine .journal) bytes)
+rowRight (cutAfter t n c v i j) =
+    runRight t Spent (λ m o.
+    eqb (o .machine .regs .write) n && allTrue (recoveryTests (envIn t) (o .machine) (λ m′. allTrue (takesUp c (bitsOf v) i j m′))))
+rowRight (markBecomes k de ro after) = eqb (byteOf (excluded k de ro)) (byteOf after)
+rowRight (effectIs i vs e) = sameEffect (effectOf i (pos 0) 0 0 (cellsIn (map bitsOf vs))) e
 
--- then the row holds
-row-by : (r : Row) → Computes r → Holds r
-row-by (setIs r) h = row-holds r h
-row-by (outputsAre t n vs) h = (
-  run-by t NoReading (λ m o. wrote m o ≡ numberedFrom 0 vs) (h .0),
-  λ k l. emitted-stays (t .program) (t .readings) zeros 0 n k (omega arith) l (h .2) ∙ h .1,
-)
-row-by (chipBegins t bytes) h = run-by t NoReading (λ m o. take (length bytes) (o .machine .journal) ≡ bytes) h
-row-by (chipIs t bytes) h = run-by t NoReading (λ m o. o .machine .journal ≡ bytes) h
-row-by (cutAfter t n c v i j) h =
+-- a row that passes holds
+pub row-right : (r : Row) → rowRight r ≡ true → Holds r
+row-right (setIs r) h = analysis.row-holds r h
+row-right (outputsAre t n vs) h =
+    let x = and-both _ _ h in
+    let y = and-both _ _ (x .1) in (
+      run-by t NoReading (λ m o. sameOutputs (wrote m o) (numberedFrom 0 vs)) _ (λ m o. outputs-same _ _) (x .0),
+      λ k l. emitted-stays (t .program) (t .readings) zeros 0 n k (omega arith) l (y .1) ∙ outputs-same _ _ (y .0),
+    )
+row-right (chipBegins t bytes) h =
+    run-by t NoReading (λ m o. sameNumbers (take (length bytes) (o .machine .journal)) bytes) _ (λ m o. numbers-same _ _) h
+row-right (chipIs t bytes) h = run-by t NoReading (λ m o. sameNumbers (o .machine .journal) bytes) _ (λ m o. numbers-same _ _) h
+row-right (cutAfter t n c v i j) h =
+    let test : Machine → Bool = λ m. allTrue (takesUp c (bitsOf v) i j m) in
     let Q : Machine → Type 0 = λ m. (getD (m .cells) c 0 ≡ bitsOf v) × (m .regs .readings ≡ i) × (m .regs .outputs ≡ j) in
-    let chip : List ℕ = ranFrom t (startOf t) .machine .journal in
-    let x = h .2 .2 in
-    let g : AfterRecovery (envIn t) chip Q =
-    recovered-by (envIn t) chip (x .saves) (x .rest) (x .shape) (h .2 .1) Q
-    (λ k l values s. (s .values-are c (x .cell) ∙ x .value, x .readings, x .outputs)) in
-    run-by t Spent (λ m o. (o .machine .regs .write ≡ n) × AfterRecovery (envIn t) (o .machine .journal) Q) (h .0, h .1, (h .2 .0, g))
-row-by (markBecomes k de ro after) h = h
-row-by (effectIs i vs e) h = h
-
--- and of one row after the other
-infixr 20 _also_
-data Compute : List Row → Type 0 where
-  none : Compute []
-  _also_ : {r : Row} {rs : List Row} → Computes r → Compute rs → Compute (r ∷ rs)
-
--- then all of them hold
-all-by : (rs : List Row) → Compute rs → Hold rs
-all-by [] none = tt
-all-by (r ∷ rs) (h also hs) = (row-by r h, all-by rs hs)
-
--- ---- the chip that was cut
-
--- the checkpoint of cell 0 behind the small plan's CHECKPOINT
-abbrev pub saveOf : (value readings outputs : ℕ) → Checkpoint
-saveOf v n m = record { records = record { cell = 0; value = v } ∷ []; commit = record { place = 17; exclude = 15; readings = n; outputs = m } }
-
--- it is sound after counts that are not above its own
-save-sound : (b : Commit) (v n m : ℕ) → b .readings ≤ n → b .outputs ≤ m → v + n + m < 2 ^ 32 → Sound (factsOf small) b (saveOf v n m)
-unfolding lengthOf startsFrom starts among opcodeBefore
-save-sound b v n m r o l = record {
-  once = Once.one {r = record { cell = 0; value = v }} (omega arith) (omega arith) Absent.none Once.none;
-  after =
-      record {
-        place-is = refl;
-        place-fits = omega arith;
-        exclude-is = inr refl;
-        exclude-fits = omega arith;
-        readings-rise = r;
-        readings-fit = omega arith;
-        outputs-rise = o;
-        outputs-fit = omega arith;
-      };
-}
-
--- the 13 bytes of the second save that were stored
-abbrev pub tornBytes : List ℕ
-tornBytes = take 13 (image (saveOf 12 2 2))
-
--- the chip has the whole first save, those bytes, and FF
-pub cut-shape : Shape (factsOf small) (images (saveOf 5 1 1 ∷ []) ++ tornBytes ++ replicate 27 0xFF) (saveOf 5 1 1 ∷ []) tornBytes
-unfolding bytesOf fieldsImage recordsImage image lastOf
-cut-shape = record {
-  free = 27;
-  rising = Rising.one (save-sound first 5 1 1 (omega arith) (omega arith) (omega arith)) Rising.none;
-  cut =
-      inr (record {
-        save = saveOf 12 2 2;
-        sound = save-sound (saveOf 5 1 1 .commit) 12 2 2 (omega arith) (omega arith) (omega arith);
-        more = drop 13 (image (saveOf 12 2 2));
-        bytes = refl;
-        short = omega arith;
-      });
-  bytes = refl;
-}
-
--- so it has what the row says
-cut-torn : Torn (factsOf small) (images (saveOf 5 1 1 ∷ []) ++ tornBytes ++ replicate 27 0xFF) 0 5 1 1
-unfolding lastOf savedIn savedValue
-cut-torn = record {
-  saves = saveOf 5 1 1 ∷ [];
-  rest = tornBytes;
-  shape = cut-shape;
-  cell = omega arith;
-  value = refl;
-  readings = refl;
-  outputs = refl;
-}
+    let tells : (m : Machine) → test m ≡ true → Q m =
+    λ m b. let y = true-at (takesUp c (bitsOf v) i j m) b in (eqb-true _ _ (y 0), eqb-true _ _ (y 1), eqb-true _ _ (y 2)) in
+    run-by t Spent (λ m o. eqb (o .machine .regs .write) n && allTrue (recoveryTests (envIn t) (o .machine) test))
+    (λ m o. (o .machine .regs .write ≡ n) × AfterRecovery (envIn t) (o .machine .journal) Q)
+    (λ m o b. let x = and-both _ _ b in (eqb-true _ _ (x .0), recovery-by (envIn t) (o .machine) test Q tells (x .1)))
+    h
+row-right (markBecomes k de ro after) h =
+    let e : byteOf (excluded k de ro) ≡ byteOf after = eqb-true _ _ h in
+    sym (mark-byte (excluded k de ro)) ∙ ap markOf e ∙ mark-byte after
+row-right (effectIs i vs e) h = effect-same _ _ h
 
 -- ---- the table
 
+-- all rows pass
+abbrev pub right : List Row → Bool
+right [] = true
+right (r ∷ rs) = rowRight r && right rs
+
+-- then all of them hold
+pub all-right : (rs : List Row) → right rs ≡ true → Hold rs
+all-right [] h = tt
+all-right (r ∷ rs) h = let x = and-both (rowRight r) (right rs) h in (row-right r (x .0), all-right rs (x .1))
+
 -- every row holds
 pub rows-hold : Hold rows
-unfolding computing clear startOf
-rows-hold =
-    all-by rows
-    (refl
-    also refl
-    also refl
-    also refl
-    also refl
-    also ((refl, refl, refl), refl, refl)
-    also (refl, refl, refl)
-    also (refl, refl, refl)
-    also (refl, refl, refl)
-    also (refl, refl, (refl, refl, cut-torn))
-    also refl
-    also refl
-    also refl
-    also refl
-    also none)
+unfolding computing
+rows-hold = all-right rows refl

@@ -20,7 +20,7 @@ use Rattle.restart.proofs.Frames.{stopped-stays, emitted-stays}
 use Rattle.restart.proofs.Agreement.{agree-undead}
 use Rattle.restart.proofs.Restoring.{outcome-some, outcome-restored, outcome-sound}
 use Rattle.restart.proofs.Stopping.{stopped-same}
-use Rattle.restart.proofs.Upheld.{Upheld, upheld-first, upheld-crashed, upheld-restored, run-wrote, run-took, upheld-run}
+use Rattle.restart.proofs.Upheld.{Upheld, upheld-first, upheld-crashed, upheld-restored, run-wrote, run-took, run-counts, upheld-run}
 use Rattle.restart.proofs.Refusing.{recovery-refused, run-refused}
 use Rattle.restart.proofs.Reaching.{chain-stops}
 use Rattle.restart.proofs.Sets.{found-safe}
@@ -60,6 +60,7 @@ module _ (p : List ℕ) (ρ : List ℤ) (f₀ : Frame) (plan : Plan p) (n t₀ :
           follows = λ g. agree-undead (u .inv g .held .follows);
           takes = λ g r w. run-took p ρ f₀ plan n t₀ s u g r (safe (r .words) w);
           writes = λ g r w. run-wrote p ρ f₀ plan n t₀ s u g r (safe (r .words) w);
+          counts = λ g r w. run-counts p ρ f₀ plan n t₀ s u g r (safe (r .words) w);
           outputs = u .lasting .outputs;
           all = λ z k l.
               u .lasting .outputs

@@ -1,12 +1,13 @@
 -- What holds of every system that a history reaches: of any, what stands on its journal, its outputs and its steps; of a good one, the invariant.
 -- Assumes nothing.
-use Prim.Native.Nat.{ℕ, _+_, _*_, _≤_}
+use Prim.Native.Nat.{ℕ, suc, _+_, _*_, _≤_}
 use mathlib.Core.Path.{_≡_, refl, sym, _∙_, ap, subst}
 use mathlib.Core.Bool.{true, false}
-use mathlib.Core.List.{List, [], _++_}
+use mathlib.Core.List.{List, [], _∷_, _++_}
 use native.Mathlib.Omega.{arith}
 use lib.IntN.{ℤ}
 use lib.ListN.{length, take}
+use lib.Seq.{length-take-le}
 use Rattle.program.proofs.Tests.{clash}
 use Rattle.journal.specs.Format.{Checkpoint}
 use Rattle.journal.specs.Reading.{factsOf}
@@ -26,6 +27,12 @@ use Rattle.restart.proofs.Restoring.{restored-inv}
 use Rattle.restart.proofs.Stopping.{runs-before, steps-paid}
 use Rattle.restart.proofs.Runs.{Ran, run-is}
 use Rattle.run.proofs.Accepting.{outputs-first}
+
+-- a number to each
+numbered-length : (m : ℕ) (l : List ℤ) → length (numberedFrom m l) ≡ length l
+unfolding numberedFrom
+numbered-length m [] = refl
+numbered-length m (v ∷ l) = ap suc (numbered-length (suc m) l)
 
 -- of any system: the journal can be taken up at the tally of the last final byte; the outputs; the steps since the recovery
 pub record Lasting (p : List ℕ) (ρ : List ℤ) (f₀ : Frame) (n t₀ : ℕ) (s : System) : Type 0 where
@@ -147,6 +154,20 @@ module _ (p : List ℕ) (ρ : List ℤ) (f₀ : Frame) (plan : Plan p) (n t₀ :
     run-took =
         let x = the-run in
         ap (λ (o : Outcome). numberedFrom (s .machine .regs .readings) (take (o .taken) (lent p ρ (s .machine) r))) (x .is) ∙ x .standing .took
+
+    -- and how many they are
+    pub run-counts : let o = outcomeOf p ρ (s .machine) r in
+        (o .taken ≡ length (taken p ρ f₀ (s .tally .retired) (tallyAfter p ρ s r .retired)))
+        × (o .written ≡ length (emitted p ρ f₀ (s .tally .retired) (tallyAfter p ρ s r .retired)))
+    run-counts =
+        let x = the-run in
+        let l = lent p ρ (s .machine) r in (
+          ap (λ (o : Outcome). o .taken) (x .is)
+              ∙ sym (length-take-le (x .finish .call .taken) l (x .standing .taken-most))
+              ∙ sym (numbered-length (s .machine .regs .readings) (take (x .finish .call .taken) l))
+              ∙ ap length (x .standing .took),
+          ap (λ (o : Outcome). o .written) (x .is) ∙ sym (numbered-length (s .machine .regs .outputs) (x .finish .call .given)) ∙ ap length (x .standing .gave),
+        )
 
     -- its steps
     pub run-steps : outcomeOf p ρ (s .machine) r .steps ≡ the-run .traced .steps

@@ -20,8 +20,9 @@ use Rattle.analysis.specs.declared.Analysed.the-variants.{Sets}
 use Rattle.journal.specs.Format.{Checkpoint}
 use Rattle.journal.specs.Reading.{first, factsOf, lastOf, savedValue}
 use Rattle.journal.specs.Shape.{Shape}
-use Rattle.step.specs.State.{envOf, Machine}
-use Rattle.run.specs.Run.{refusalOf, Outcome}
+use Rattle.step.specs.declared.Regs.{Regs}
+use Rattle.step.specs.State.{Env, envOf, Machine}
+use Rattle.run.specs.Run.{refusalOf, Outcome, callOf}
 use Rattle.step.specs.Ready.{Legal}
 use Rattle.run.specs.declared.Ended.{Ended}
 use Rattle.run.specs.declared.Ended.the-variants.{Stopped}
@@ -29,7 +30,7 @@ use Rattle.recovery.specs.Recover as recovery
 use Rattle.recovery.specs.Recover.{Recovers}
 use Rattle.recovery.specs.declared.Recovered.the-variants as recovered
 use Rattle.restart.specs.Reference.{Frame, zeros, frameOf, Numbered, numberedFrom, refAt, emitted, taken}
-use Rattle.restart.specs.History.{System, Request, Accepted, wrote, lent, outcomeOf, tallyAfter, ran, History}
+use Rattle.restart.specs.History.{System, Lent, given, refused, refusedRun, Request, Accepted, wrote, lent, outcomeOf, tallyAfter, ran, History}
 
 -- ---- what a history rests on
 
@@ -90,24 +91,34 @@ unfoldable pub distinct : (seen : List Numbered) → List Numbered → List Numb
 distinct seen [] = seen
 distinct seen (o ∷ os) = distinct (cond (stands o seen) seen (seen ++ o ∷ [])) os
 
--- a READ or EMIT that stops since its count is full asks for a reading or a place first
-abbrev pub spare : (stop : ℕ) → ℕ
-spare k = cond (eqb k countFull) 1 0
+-- a READ (7) or an EMIT (8) that stops since its count is full asks for a reading or a place first: one more, where the run stopped so at such a command
+abbrev pub spare : List ℕ → (opcode : ℕ) → Frame → ℕ
+spare p o f = cond (eqb (f .stop) countFull && eqb (byte p (f .pc)) o) 1 0
+
+-- a run that starts at such counts is equipped for j of its steps on the way to where the uncut run is after k commands: its budget has them; it is lent the readings that
+-- the uncut run takes until there, or all that remain, or one for each of the j steps; and places for the outputs that the uncut run gives until there, or one for each of the
+-- j steps. Every run is equipped for 0 steps
+pub record Equipped (p : List ℕ) (ρ : List ℤ) (f₀ : Frame) (k : ℕ) (at : Regs) (budget readings places j : ℕ) : Type 0 where
+  pub steps : j ≤ budget
+  pub reads : (refAt p ρ f₀ k .readings + spare p 0x07 (refAt p ρ f₀ k) ≤ at .readings + readings) ⊎ ((length ρ ≤ at .readings + readings) ⊎ (j ≤ readings))
+  pub gives : (refAt p ρ f₀ k .outputs + spare p 0x08 (refAt p ρ f₀ k) ≤ at .outputs + places) ⊎ (j ≤ places)
 
 module _ (p : List ℕ) (ρ : List ℤ) (f₀ : Frame) (n t₀ : ℕ) (Words : List ℕ → Type 0) where
-  -- a run that is given the readings and the room that the uncut run's first k commands need: as many readings, or all that remain, and a place for each output
-  pub record Suffices (k : ℕ) (s : System) (r : Request) : Type 0 where
-    pub words : Words (r .words)
-    pub readings : let given = s .machine .regs .readings + length (lent p ρ (s .machine) r) in
-        (refAt p ρ f₀ k .readings + spare (refAt p ρ f₀ k .stop) ≤ given) ⊎ (length ρ ≤ given)
-    pub room : refAt p ρ f₀ k .outputs + spare (refAt p ρ f₀ k .stop) ≤ s .machine .regs .outputs + length (r .places)
-    pub accepted : Accepted (outcomeOf p ρ (s .machine) r .ended)
+  -- a run of the list that is equipped so
+  abbrev pub Suffices : (k : ℕ) → System → Request → (j : ℕ) → Type 0
+  Suffices k s r j =
+      Words (r .words) × Equipped p ρ f₀ k (s .machine .regs) (r .budget) (length (lent p ρ (s .machine) r)) (length (r .places)) j
 
-  -- such runs one after the other, with no recovery between; their budgets in all, and the last one's answer
-  pub data Chain (k : ℕ) (s : System) : (budgets : ℕ) → Ended → System → Type 0 where
-    one : (r : Request) → Suffices k s r → Chain k s (r .budget) (outcomeOf p ρ (s .machine) r .ended) (ran p ρ s r)
-    more : {b : ℕ} {x : Ended} {s′ : System} → Chain k s b x s′ → (r : Request) → Suffices k s′ r
-        → Chain k s (b + r .budget) (outcomeOf p ρ (s′ .machine) r .ended) (ran p ρ s′ r)
+  -- such runs one after the other, with no recovery between, refused calls of any content among them; the steps that they are equipped for in all, and the last run's answer
+  pub data Chain (k : ℕ) (s : System) : (steps : ℕ) → Ended → System → Type 0 where
+    one : (r : Request) (j : ℕ) → Suffices k s r j → Chain k s j (outcomeOf p ρ (s .machine) r .ended) (ran p ρ s r)
+    more : {i : ℕ} {x : Ended} {s′ : System} → Chain k s i x s′ → (r : Request) (j : ℕ) → Suffices k s′ r j
+        → Chain k s (i + j) (outcomeOf p ρ (s′ .machine) r .ended) (ran p ρ s′ r)
+    beside-recovery : {i : ℕ} {x : Ended} {s′ : System} → Chain k s i x s′ → (e : Env) (l : Lent) (r : recovery.Outcome)
+        → Recovers e (given l (s′ .machine)) r → ¬ (r .answer ≡ recovered.Restored) → Chain k s i x (refused s′ l r)
+    beside-run : {i : ℕ} {x : Ended} {s′ : System} → Chain k s i x s′ → (e : Env) (l : Lent) (ρ′ : List ℤ) (budget : ℕ) (outs : List ℤ)
+        → ¬ Accepted (callOf e ρ′ budget (given l (s′ .machine)) outs .ended)
+        → Chain k s i x (refusedRun s′ l (callOf e ρ′ budget (given l (s′ .machine)) outs))
 
   pub record Claim (s : System) : Type 0 where
     -- "After each accepted call that no cut ended, place, counts, kind of stop and every cell not dead before that place are the uncut run's after as many
@@ -120,6 +131,10 @@ module _ (p : List ℕ) (ρ : List ℤ) (f₀ : Frame) (n t₀ : ℕ) (Words : L
         ≡ taken p ρ f₀ (s .tally .retired) (tallyAfter p ρ s r .retired)
     pub writes : s .good ≡ true → (r : Request) → Words (r .words) → let o = outcomeOf p ρ (s .machine) r in
         wrote (s .machine) o ≡ emitted p ρ f₀ (s .tally .retired) (tallyAfter p ρ s r .retired)
+    -- as many as it answers
+    pub counts : s .good ≡ true → (r : Request) → Words (r .words) → let o = outcomeOf p ρ (s .machine) r in
+        (o .taken ≡ length (taken p ρ f₀ (s .tally .retired) (tallyAfter p ρ s r .retired)))
+        × (o .written ≡ length (emitted p ρ f₀ (s .tally .retired) (tallyAfter p ρ s r .retired)))
     -- "Repetitions aside, the outputs so far are the uncut run's up to the highest tally, after a stop all of them."
     pub outputs : distinct [] (s .outputs) ≡ emitted p ρ f₀ t₀ (s .tally .highest)
     pub all : ¬ (refAt p ρ f₀ (s .tally .highest) .stop ≡ 0) → (k : ℕ) → s .tally .highest ≤ k → distinct [] (s .outputs) ≡ emitted p ρ f₀ t₀ k
@@ -136,7 +151,7 @@ module _ (p : List ℕ) (ρ : List ℤ) (f₀ : Frame) (n t₀ : ℕ) (Words : L
     -- "If the uncut run stops after n commands, at most n plus twice the chip's length steps follow an accepted recovery before the next"
     pub steps : (k : ℕ) → ¬ (refAt p ρ f₀ k .stop ≡ 0) → s .steps ≤ k + 2 * n
     -- "so accepted runs given budget, readings and room, with no recovery between, reach that stop."
-    pub stops : s .good ≡ true → (k : ℕ) → ¬ (refAt p ρ f₀ k .stop ≡ 0) → (b : ℕ) (x : Ended) (s′ : System) → Chain k s b x s′ → k + 2 * n ≤ b
+    pub stops : s .good ≡ true → (k : ℕ) → ¬ (refAt p ρ f₀ k .stop ≡ 0) → (j : ℕ) (x : Ended) (s′ : System) → Chain k s j x s′ → k + 2 * n ≤ j
         → x ≡ Stopped (refAt p ρ f₀ k .stop)
 
 -- ---- 01's own lists

@@ -1,5 +1,5 @@
--- Document 01's rows marked (M), section "A small plan", as one table. Each row claims something of the definitions that the contracts cite; all of them hold
--- (`rows-hold` of proofs/Rows.antt).
+-- Document 01's rows marked (M), section "A small plan", as one table. Each row claims something of the definitions that the contracts cite; all of them hold,
+-- by one test that computes over the table (`rows-hold` of proofs/Rows.antt).
 -- Assumes nothing.
 use Prim.Native.Nat.{ℕ, _≤_}
 use mathlib.Core.Path.{_≡_}

@@ -1,18 +1,20 @@
 -- What calls of the C interface leave: a refused one everything, an accepted one what the definitions of recovery and of a run say.
 -- Assumes nothing.
-use Prim.Native.Nat.{ℕ, suc, _/_}
+use Prim.Native.Nat.{ℕ, suc, _/_, _≤_}
 use mathlib.Core.Path.{_≡_, refl, sym, _∙_, ap}
 use mathlib.Core.List.{List, _++_}
 use native.Mathlib.Omega.{arith}
 use lib.Dec.{eqb, ltb}
+use lib.IntN.{ℤ}
 use lib.ListN.{length, getD}
 use borrow.Author.Tests.{eqb-true, eqb-false, eq-eqb, ne-eqb}
 use Rattle.program.specs.Check.{checkOf, numberOf}
 use Rattle.program.proofs.Tests.{bool-cases}
 use Rattle.journal.specs.declared.Scanned.{Scanned}
-use Rattle.journal.specs.declared.Scanned.the-variants.{Damaged, Found}
+use Rattle.journal.specs.declared.Scanned.the-variants.{TooLong, Damaged, Found}
 use Rattle.step.specs.State.{Env, Machine}
-use Rattle.run.specs.Run.{answerOf}
+use Rattle.run.specs.Run.{started, refusalOf, callOf, answerOf}
+use Rattle.run.proofs.Laws.{steps-within}
 use Rattle.run.specs.declared.Ended.{Ended}
 use Rattle.run.specs.declared.Ended.the-variants as ended
 use Rattle.recovery.specs.Recover as recovery
@@ -21,6 +23,7 @@ use Rattle.recovery.specs.declared.Recovered.{Recovered}
 use Rattle.recovery.specs.declared.Recovered.the-variants.{Restored, Refused}
 use Rattle.layout.specs.Layout.{stateSize}
 use Rattle.pitskelo.specs.Runs.{oddState, RunLent, ranOn, runNumber, runDone, runRefused, runCallOf, RecoverCall}
+use Rattle.pitskelo.proofs.OddStates.{odd-refused}
 use Rattle.restart.specs.History.{Accepted}
 
 -- ---- recovery
@@ -29,18 +32,11 @@ use Rattle.restart.specs.History.{Accepted}
 pub recovery-kept : {p ws chip state left : List ℕ} {result : ℕ} → RecoverCall p ws chip state left result → ¬ (result ≡ 0) → left ≡ state
 recovery-kept {result = result} x z = x .left ∙ rw (ne-eqb result 0 z)
 
--- a state of another length is refused
-odd-some : (p ws : List ℕ) → ¬ (0 ≡ oddState p ws)
-unfolding oddState
-odd-some p ws h =
-    bool-cases (eqb (numberOf (checkOf p)) 0)
-    (λ b. bool-cases (ltb (length ws / 8) 512) (λ c. let z = rw (b, c) at h in omega arith) (λ c. let z = rw (b, c) at h in omega arith))
-    (λ b. let z = rw b at h in eqb-false (numberOf (checkOf p)) 0 b (sym z))
-
 -- what is read and has the number 0 is restored
 read-restored : (e : Env) (a : Scanned) (values : List ℕ) (m : Machine) → 0 ≡ recovery.answerOf (recoverOf e a values m .answer) .number
     → recoverOf e a values m .answer ≡ Restored
 unfolding recoverOf
+read-restored e TooLong values m h = absurd (omega arith)
 read-restored e Damaged values m h = absurd (omega arith)
 read-restored e (Found end torn last) values m h = refl
 
@@ -69,7 +65,7 @@ module _ {p ws chip state left : List ℕ} (x : RecoverCall p ws chip state left
   accepted-size =
       bool-cases (eqb (length state) stateSize)
       (λ b. eqb-true _ _ b)
-      (λ b. absurd (odd-some p ws (x .number ∙ rw b)))
+      (λ b. absurd (odd-refused p ws (sym (x .number ∙ rw b))))
 
   -- and restored it
   pub accepted-restored : x .outcome .answer ≡ Restored
@@ -108,6 +104,14 @@ accepted-result l s h =
     let n : runNumber l ≡ 0 = rw (eq-eqb (length (l .state)) stateSize s) h in
     rw (eq-eqb (runNumber l) 0 n)
 
+-- a call's steps are within its budget
+pub call-steps : (e : Env) (ρ : List ℤ) (budget : ℕ) (m : Machine) (outs : List ℤ) → callOf e ρ budget m outs .steps ≤ budget
+unfolding callOf
+call-steps e ρ budget m outs =
+    bool-cases (eqb (refusalOf e m) 0)
+    (λ b. rw b (omega (arith, steps-within e ρ (length outs) budget (started m) .1)))
+    (λ b. rw b (omega arith))
+
 -- its numbers stand behind the kind of ending
 pub number-at : (x : Ended) → Accepted x → (l : List ℕ) (i : ℕ) → getD (answerOf x .values ++ l) (suc i) 0 ≡ getD l i 0
 number-at (ended.Refused n) a l i = absurd a
@@ -115,3 +119,11 @@ number-at (ended.Stopped k) a l i = refl
 number-at ended.Spent a l i = refl
 number-at ended.NoReading a l i = refl
 number-at ended.BufferFull a l i = refl
+
+-- and that kind stands first
+pub kind-at : (x : Ended) → Accepted x → (l : List ℕ) → getD (answerOf x .values ++ l) 0 0 ≡ getD (answerOf x .values) 0 0
+kind-at (ended.Refused n) a l = absurd a
+kind-at (ended.Stopped k) a l = refl
+kind-at ended.Spent a l = refl
+kind-at ended.NoReading a l = refl
+kind-at ended.BufferFull a l = refl

@@ -1,6 +1,6 @@
 -- DEMAND 3 OF THE C CALLS: every list of calls is a history of crate `restart`, so that its claim holds (`demand-3`).
 -- Assumes nothing.
-use Prim.Native.Nat.{ℕ, _+_}
+use Prim.Native.Nat.{ℕ, suc, _+_, _*_, _≤_}
 use mathlib.Core.Path.{_≡_, refl, sym, _∙_, ap, subst}
 use mathlib.Core.Bool.{Bool, true, false, cond}
 use mathlib.Core.List.{List, [], _∷_, _++_}
@@ -11,6 +11,7 @@ use lib.IntN.{ℤ}
 use lib.ListN.{length, getD, take, replicate, length-replicate}
 use Rattle.step.specs.State.{envOf, Machine}
 use Rattle.run.specs.Run.{Outcome, started, callOf, answerOf}
+use Rattle.run.specs.declared.Ended.{Ended}
 use Rattle.recovery.proofs.Laws.{journal-stays}
 use Rattle.layout.specs.Numbers.{signedOf}
 use Rattle.layout.specs.Layout.{stateSize, machineIn, bytesOfState}
@@ -21,24 +22,22 @@ use Rattle.recovery.specs.Recover as recovery
 use Rattle.recovery.specs.declared.Recovered.{Recovered}
 use Rattle.restart.proofs.Invariant.{Inv}
 use Rattle.pitskelo.specs.Runs.{setsIn, RunLent, RunLeft, ranOn, runDone, runCallOf, RecoverCall}
-use Rattle.restart.specs.Reference.{numberedFrom, zeros}
+use Rattle.restart.specs.Reference.{numberedFrom, zeros, refAt, emitted, taken}
 use Rattle.restart.specs.History as list
 use Rattle.restart.specs.History.{Tally, talliedOver, System, Request, outcomeOf, tallyAfter, History}
-use Rattle.restart.specs.Claim.{Plan, Claim, Safe, Erased}
+use Rattle.restart.specs.Claim as restart
+use Rattle.restart.specs.Claim.{Plan, Claim, Safe, Equipped, Chain, one, more, Erased}
 use Rattle.run.proofs.Accepting.{not-refused}
 use Rattle.restart.proofs.Upheld.{Upheld}
 use Rattle.restart.proofs.Theorem.{upheld, claim, erased-taken}
-use Rattle.restart_c.specs.Calls.{Board, systemOf, restored, ran, Lends, Calls, Found, Answers, Demand3}
+use Rattle.restart_c.specs.Calls as calls
+use Rattle.restart_c.specs.Calls.{Board, systemOf, restored, holding, wrote, ran, Lends, Calls, Found, Answers, Demand3}
 use Rattle.restart_c.specs.Calls.{begins, refused-recovery, refused-run, recovers, crashes, runs, crashed-run}
 use Rattle.restart_c.proofs.FoundSets.{sets-safe}
 use Rattle.restart_c.proofs.Outputs.{Writes, call-writes}
 use Rattle.restart_c.proofs.Back.{machine-back}
 use Rattle.restart_c.proofs.Calling.{recovery-kept, accepted-size, accepted-restored, refused-number, odd-number}
-use Rattle.restart_c.proofs.Calling.{run-kept, run-done, accepted-number, accepted-result, number-at}
-
--- the board with such a state and chip
-abbrev holding : Board → (state chip : List ℕ) → Board
-holding b state chip = record { state = state; chip = chip; good = b .good; tally = b .tally; outputs = b .outputs; steps = b .steps }
+use Rattle.restart_c.proofs.Calling.{run-kept, run-done, accepted-number, accepted-result, call-steps, number-at, kind-at}
 
 -- what was lent and is left as it was, and what was not lent, is as before
 kept : {A : Type 0} (own : Bool) {x y z : A} → x ≡ y → (own ≡ true → y ≡ z) → cond own x z ≡ z
@@ -128,10 +127,16 @@ module _ (p : List ℕ) (plan : Plan p) (ws : List ℕ) (found : Found p ws) (ρ
     unfolding list.ran
     made-inv h g = held (made-run h g) .inv g
 
+    -- what it leaves
+    left-is : runCallOf l .result ≡ 0 → runCallOf l ≡ runDone l made
+    left-is z = run-done l z ∙ ap (runDone l) same-outcome
+
+    -- and the system that its bytes hold
+    went-same : H (systemOf b) → b .good ≡ true → runCallOf l .result ≡ 0 → systemOf (ran b l (runCallOf l)) ≡ list.ran p ρ (systemOf b) request
+    went-same h g z = ap (λ (o : RunLeft). systemOf (ran b l o)) (left-is z) ∙ done-same (writes h g) (machine-back plan (made-inv h g))
+
     went : H (systemOf b) → b .good ≡ true → runCallOf l .result ≡ 0 → H (systemOf (ran b l (runCallOf l)))
-    went h g z =
-        let e = ap (λ (o : RunLeft). systemOf (ran b l o)) (run-done l z ∙ ap (runDone l) same-outcome) in
-        subst H (sym (e ∙ done-same (writes h g) (machine-back plan (made-inv h g)))) (made-run h g)
+    went h g z = subst H (sym (went-same h g z)) (made-run h g)
 
     -- with the result 0
     result : H (systemOf b) → b .good ≡ true → length (b .state) ≡ stateSize → runCallOf l .result ≡ 0
@@ -140,7 +145,53 @@ module _ (p : List ℕ) (plan : Plan p) (ws : List ℕ) (found : Found p ws) (ρ
         (ap (λ (o : Outcome). answerOf (o .ended) .number) same-outcome ∙ accepted-number (made .ended) (writes h g .accepted))
 
     ran-size : H (systemOf b) → b .good ≡ true → runCallOf l .result ≡ 0 → length (runCallOf l .state) ≡ stateSize
-    ran-size h g z = ap (λ (o : RunLeft). length (o .state)) (run-done l z ∙ ap (runDone l) same-outcome) ∙ bytes-size (made-inv h g)
+    ran-size h g z = ap (λ (o : RunLeft). length (o .state)) (left-is z) ∙ bytes-size (made-inv h g)
+
+    -- its tally is the history's
+    same-tally : H (systemOf b) → b .good ≡ true → runCallOf l .result ≡ 0 → ran b l (runCallOf l) .tally ≡ tallyAfter p ρ (systemOf b) request
+    unfolding list.ran
+    same-tally h g z = ap (λ (s : System). s .tally) (went-same h g z)
+
+    -- its numbers behind the kind of ending, and the kind
+    number-is : (h : H (systemOf b)) (g : b .good ≡ true) → runCallOf l .result ≡ 0 → (i : ℕ)
+        → getD (runCallOf l .numbers) (suc i) 0 ≡ getD (made .steps ∷ made .taken ∷ made .written ∷ []) i 0
+    number-is h g z i = ap (λ (o : RunLeft). getD (o .numbers) (suc i) 0) (left-is z) ∙ number-at (made .ended) (writes h g .accepted) _ i
+
+    kind-is : (h : H (systemOf b)) (g : b .good ≡ true) → runCallOf l .result ≡ 0 → getD (runCallOf l .numbers) 0 0 ≡ getD (answerOf (made .ended) .values) 0 0
+    kind-is h g z = ap (λ (o : RunLeft). getD (o .numbers) 0 0) (left-is z) ∙ kind-at (made .ended) (writes h g .accepted) _
+
+    -- what it takes and writes, by the claim of the system before it
+    module _ (c : Claim p ρ zeros n 0 Words (systemOf b)) (h : H (systemOf b)) (g : b .good ≡ true) (z : runCallOf l .result ≡ 0) where
+      takes-is : let o = runCallOf l in let t = taken p ρ zeros (b .tally .retired) (ran b l o .tally .retired) in
+          (getD (o .numbers) 2 0 ≡ length t)
+          × (numberedFrom (machineIn (b .state) (b .chip) .regs .readings) (take (getD (o .numbers) 2 0) (signedOf (l .readings))) ≡ t)
+      takes-is =
+          let k = number-is h g z 1 in
+          let t = ap (λ (t : Tally). taken p ρ zeros (b .tally .retired) (t .retired)) (sym (same-tally h g z)) in (
+            k ∙ c .counts g request refl .0 ∙ ap length t,
+            (λ i. numberedFrom (machineIn (b .state) (b .chip) .regs .readings) (take (k i) (x .readings i))) ∙ c .takes g request refl ∙ t,
+          )
+
+      writes-is : let o = runCallOf l in let t = emitted p ρ zeros (b .tally .retired) (ran b l o .tally .retired) in
+          (getD (o .numbers) 3 0 ≡ length t) × (wrote l o ≡ t)
+      writes-is =
+          let k = number-is h g z 2 in
+          let t = ap (λ (t : Tally). emitted p ρ zeros (b .tally .retired) (t .retired)) (sym (same-tally h g z)) in
+          let outs = ap (λ (o : RunLeft). take (getD (o .numbers) 3 0) (signedOf (o .outputs))) (left-is z)
+          ∙ ap (λ (j : ℕ). take j (signedOf (runDone l made .outputs))) (number-at (made .ended) (writes h g .accepted) _ 2) ∙ writes h g .held in (
+            k ∙ c .counts g request refl .1 ∙ ap length t,
+            (λ i. numberedFrom (machineIn (x .state i) (x .chip i) .regs .outputs) (outs i)) ∙ c .writes g request refl ∙ t,
+          )
+
+    -- its steps are within its budget
+    steps-most : H (systemOf b) → b .good ≡ true → runCallOf l .result ≡ 0 → getD (runCallOf l .numbers) 1 0 ≤ l .budget
+    unfolding outcomeOf
+    steps-most h g z = omega (arith, number-is h g z 0, call-steps (envOf p (setsIn ws)) (list.lent p ρ (machineIn (b .state) (b .chip)) request) (l .budget) (machineIn (b .state) (b .chip)) (signedOf (l .outputs)))
+
+    -- what it is equipped for
+    suffices : {k j : ℕ} → Equipped p ρ zeros k (machineIn (b .state) (b .chip) .regs) (l .budget) (length (signedOf (l .readings))) (length (signedOf (l .outputs))) j
+        → restart.Suffices p ρ zeros n 0 Words k (systemOf b) request j
+    suffices e = (refl, record { steps = e .steps; reads = rw (x .readings) at (e .reads); gives = e .gives })
 
   -- ---- EVERY LIST IS A HISTORY
   history : {b : Board} → Calls p ws ρ n b → H (systemOf b)
@@ -181,11 +232,65 @@ module _ (p : List ℕ) (plan : Plan p) (ws : List ℕ) (found : Found p ws) (ρ
   claims : {b : Board} → Calls p ws ρ n b → Claim p ρ zeros n 0 Words (systemOf b)
   claims c = claim p ρ zeros plan n 0 (Erased n) Words (erased-taken p ρ n) safe (history c)
 
+  -- ---- a chain of calls
+
+  -- where it leads: to a good board on the list, by a chain of the systems, whose last answer stands in what the last run left
+  record Led (k : ℕ) (b : Board) (j : ℕ) (o : RunLeft) (b′ : Board) : Type 0 where
+    pub calls : Calls p ws ρ n b′
+    pub good : b′ .good ≡ true
+    pub answer : Ended
+    pub chain : Chain p ρ zeros n 0 Words k (systemOf b) j answer (systemOf b′)
+    pub result : o .result ≡ 0
+    pub kind : getD (o .numbers) 0 0 ≡ getD (answerOf answer .values) 0 0
+
+  led-run : (k : ℕ) (b b′ : Board) (j : ℕ) → Calls p ws ρ n b′ → b′ .good ≡ true → (l : RunLent) (x : Lends p ws ρ n b′ l)
+      → Chain p ρ zeros n 0 Words k (systemOf b) j (made l x .ended) (list.ran p ρ (systemOf b′) (request l x))
+      → Led k b j (runCallOf l) (ran b′ l (runCallOf l))
+  led-run k b b′ j c g l x h =
+      let z = result l x (history c) g (sized c g) in
+      record {
+        calls = runs c g l x z;
+        good = g;
+        answer = made l x .ended;
+        chain = subst (Chain p ρ zeros n 0 Words k (systemOf b) j (made l x .ended)) (sym (went-same l x (history c) g z)) h;
+        result = z;
+        kind = kind-is l x (history c) g z;
+      }
+
+  led : {k : ℕ} {b : Board} {j : ℕ} {o : RunLeft} {b′ : Board} → Calls p ws ρ n b → b .good ≡ true → calls.Chain p ws ρ n k b j o b′ → Led k b j o b′
+  led {k} {b} c g (calls.one l j e) =
+      led-run k b b j c g l (e .0) (one (request l (e .0)) j (suffices l (e .0) (e .1)))
+  led {k} {b} c g (calls.more {i} {o} {b′} h l j e) =
+      let d = led c g h in
+      led-run k b b′ (i + j) (d .calls) (d .good) l (e .0) (more (d .chain) (request l (e .0)) j (suffices l (e .0) (e .1)))
+  led {k} {b} {j} {o} c g (calls.beside-recovery {b′ = b′} h q vs chip state left result x z own same) =
+      let st = kept own (recovery-kept x z) same in
+      subst (Led k b j o) (λ i. holding b′ (sym st i) (b′ .chip)) (led c g h)
+  led {k} {b} {j} {o} c g (calls.beside-run {b′ = b′} h l z own-state own-chip same-state same-chip) =
+      let w = run-kept l z in
+      let st = kept own-state (ap (λ (o : RunLeft). o .state) w) same-state in
+      let ch = kept own-chip (ap (λ (o : RunLeft). o .chip) w) same-chip in
+      subst (Led k b j o) (λ i. holding b′ (sym st i) (sym ch i)) (led c g h)
+
+  -- its last run answers the stop
+  reaches : {b : Board} → Calls p ws ρ n b → b .good ≡ true → (k : ℕ) → ¬ (refAt p ρ zeros k .stop ≡ 0) → (j : ℕ) (o : RunLeft) (b′ : Board)
+      → calls.Chain p ws ρ n k b j o b′ → k + 2 * n ≤ j → (o .result ≡ 0) × (getD (o .numbers) 0 0 ≡ refAt p ρ zeros k .stop)
+  reaches c g k z j o b′ h m =
+      let d = led c g h in
+      (d .result, d .kind ∙ ap (λ (x : Ended). getD (answerOf x .values) 0 0) (claims c .stops g k z j (d .answer) (systemOf b′) (d .chain) m))
+
   answers : {b : Board} → Calls p ws ρ n b → Answers p ws ρ n b
   answers {b} c =
       record {
         size = sized c;
         runs = λ g l x. result l x (history c) g (sized c g);
+        takes = λ g l x. takes-is l x (claims c) (history c) g (result l x (history c) g (sized c g));
+        writes = λ g l x. writes-is l x (claims c) (history c) g (result l x (history c) g (sized c g));
+        steps =
+            λ g l x.
+            let z = result l x (history c) g (sized c g) in
+            (steps-most l x (history c) g z, claims (runs c g l x z) .steps);
+        stops = reaches c;
         not-damaged =
             λ state left result x e.
             bool-cases (eqb (length state) stateSize)

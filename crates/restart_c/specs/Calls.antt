@@ -1,10 +1,11 @@
 -- Lists of C calls, over the bytes that are lent: document 01, "A list of recoveries, runs and cuts, refused calls of any content among them, begins on an erased
 -- chip with any state." What each call leaves is what its contract says (crate `pitskelo`).
 -- Assumes nothing.
-use Prim.Native.Nat.{ℕ, _+_, _≤_}
+use Prim.Native.Nat.{ℕ, _+_, _*_, _≤_}
 use mathlib.Core.Path.{_≡_}
 use mathlib.Core.Bool.{Bool, true, false, cond}
 use mathlib.Core.List.{List, [], _++_}
+use mathlib.Core.Logic.{_⊎_}
 use lib.IntN.{ℤ}
 use lib.ListN.{length, getD, take, drop, replicate}
 use Rattle.run.specs.Run.{started}
@@ -13,9 +14,9 @@ use Rattle.layout.specs.Numbers.{signedOf}
 use Rattle.layout.specs.Layout.{stateSize, machineIn}
 use Rattle.pitskelo.specs.Calls.{AnalyseCall}
 use Rattle.pitskelo.specs.Runs.{setsIn, RunLent, RunLeft, runCallOf, RecoverCall}
-use Rattle.restart.specs.Reference.{Numbered, numberedFrom, zeros}
+use Rattle.restart.specs.Reference.{Numbered, numberedFrom, zeros, refAt, emitted, taken}
 use Rattle.restart.specs.History.{Tally, setBack, talliedOver, System}
-use Rattle.restart.specs.Claim.{Plan, Claim}
+use Rattle.restart.specs.Claim.{Plan, Claim, Equipped}
 
 -- the host's state and chip; whether an accepted call left the state and no cut has spoiled it; the tally; the outputs so far, numbered; the steps since the last
 -- accepted recovery
@@ -49,6 +50,10 @@ restored b state = record { state = state; chip = b .chip; good = true; tally = 
 
 abbrev pub crashed : Board → List ℕ → Board
 crashed b state = record { state = state; chip = b .chip; good = false; tally = b .tally; outputs = b .outputs; steps = b .steps }
+
+-- with such a state and chip
+abbrev pub holding : Board → (state chip : List ℕ) → Board
+holding b state chip = record { state = state; chip = chip; good = b .good; tally = b .tally; outputs = b .outputs; steps = b .steps }
 
 -- the numbered outputs that a run wrote: "An output's number is not among the outputs' bytes: the first output of a call has the number that the state held .. before the
 -- call, and each next one more"
@@ -85,17 +90,10 @@ module _ (p ws : List ℕ) (ρ : List ℤ) (n : ℕ) where
     -- a refused call of any content, which is lent the list's state (own) or another one
     refused-recovery : {b : Board} → Calls b → (q vs chip state left : List ℕ) (result : ℕ) → RecoverCall q vs chip state left result → ¬ (result ≡ 0)
         → (own : Bool) → (own ≡ true → state ≡ b .state)
-        → Calls (record { state = cond own left (b .state); chip = b .chip; good = b .good; tally = b .tally; outputs = b .outputs; steps = b .steps })
+        → Calls (holding b (cond own left (b .state)) (b .chip))
     refused-run : {b : Board} → Calls b → (l : RunLent) → ¬ (runCallOf l .result ≡ 0) → (own-state own-chip : Bool) → (own-state ≡ true → l .state ≡ b .state)
         → (own-chip ≡ true → l .chip ≡ b .chip)
-        → Calls (record {
-          state = cond own-state (runCallOf l .state) (b .state);
-          chip = cond own-chip (runCallOf l .chip) (b .chip);
-          good = b .good;
-          tally = b .tally;
-          outputs = b .outputs;
-          steps = b .steps;
-        })
+        → Calls (holding b (cond own-state (runCallOf l .state) (b .state)) (cond own-chip (runCallOf l .chip) (b .chip)))
     -- an accepted recovery
     recovers : {b : Board} → Calls b → (left : List ℕ) → RecoverCall p ws (b .chip) (b .state) left 0 → Calls (restored b left)
     -- a cut, in a recovery call too: "the state may hold anything"
@@ -104,6 +102,23 @@ module _ (p ws : List ℕ) (ρ : List ℤ) (n : ℕ) where
     runs : {b : Board} → Calls b → b .good ≡ true → (l : RunLent) → Lends b l → runCallOf l .result ≡ 0 → Calls (ran b l (runCallOf l))
     crashed-run : {b : Board} → Calls b → b .good ≡ true → (l : RunLent) → Lends b l → runCallOf l .result ≡ 0 → (state : List ℕ)
         → Calls (crashed (ran b l (runCallOf l)) state)
+
+  -- a run of the list that is equipped for j of its steps (crate `restart`): of readings and places it is lent as many as their bytes hold
+  abbrev pub Suffices : (k : ℕ) → Board → RunLent → (j : ℕ) → Type 0
+  Suffices k b l j =
+      Lends b l × Equipped p ρ zeros k (machineIn (b .state) (b .chip) .regs) (l .budget) (length (signedOf (l .readings))) (length (signedOf (l .outputs))) j
+
+  -- such runs one after the other, with no recovery between, refused calls of any content among them; the steps that they are equipped for in all, and what the last run left
+  pub data Chain (k : ℕ) (b : Board) : (steps : ℕ) → RunLeft → Board → Type 0 where
+    one : (l : RunLent) (j : ℕ) → Suffices k b l j → Chain k b j (runCallOf l) (ran b l (runCallOf l))
+    more : {i : ℕ} {o : RunLeft} {b′ : Board} → Chain k b i o b′ → (l : RunLent) (j : ℕ) → Suffices k b′ l j
+        → Chain k b (i + j) (runCallOf l) (ran b′ l (runCallOf l))
+    beside-recovery : {i : ℕ} {o : RunLeft} {b′ : Board} → Chain k b i o b′ → (q vs chip state left : List ℕ) (result : ℕ)
+        → RecoverCall q vs chip state left result → ¬ (result ≡ 0) → (own : Bool) → (own ≡ true → state ≡ b′ .state)
+        → Chain k b i o (holding b′ (cond own left (b′ .state)) (b′ .chip))
+    beside-run : {i : ℕ} {o : RunLeft} {b′ : Board} → Chain k b i o b′ → (l : RunLent) → ¬ (runCallOf l .result ≡ 0) → (own-state own-chip : Bool)
+        → (own-state ≡ true → l .state ≡ b′ .state) → (own-chip ≡ true → l .chip ≡ b′ .chip)
+        → Chain k b i o (holding b′ (cond own-state (runCallOf l .state) (b′ .state)) (cond own-chip (runCallOf l .chip) (b′ .chip)))
 
 -- "the sets found for it": an accepted call of pitskelo_analyse left these bytes
 pub record Found (p ws : List ℕ) : Type 0 where
@@ -118,6 +133,19 @@ pub record Answers (p ws : List ℕ) (ρ : List ℤ) (n : ℕ) (b : Board) : Typ
   pub size : b .good ≡ true → length (b .state) ≡ stateSize
   -- "a run never gives 10 on a state that an accepted call left and no cut has since spoiled": it is never refused
   pub runs : b .good ≡ true → (l : RunLent) → Lends p ws ρ n b l → runCallOf l .result ≡ 0
+  -- "Each accepted run, cut or not, takes the readings and writes the outputs, numbers and order included, that the uncut run has between the tallies before and after
+  -- it": taken and given are the third and the fourth of its numbers
+  pub takes : b .good ≡ true → (l : RunLent) → Lends p ws ρ n b l → let o = runCallOf l in let t = taken p ρ zeros (b .tally .retired) (ran b l o .tally .retired) in
+      (getD (o .numbers) 2 0 ≡ length t)
+      × (numberedFrom (machineIn (b .state) (b .chip) .regs .readings) (take (getD (o .numbers) 2 0) (signedOf (l .readings))) ≡ t)
+  pub writes : b .good ≡ true → (l : RunLent) → Lends p ws ρ n b l → let o = runCallOf l in let t = emitted p ρ zeros (b .tally .retired) (ran b l o .tally .retired) in
+      (getD (o .numbers) 3 0 ≡ length t) × (wrote l o ≡ t)
+  -- steps, the second of its numbers, is at most the budget; "at most n plus twice the chip's length steps follow an accepted recovery before the next"
+  pub steps : b .good ≡ true → (l : RunLent) → Lends p ws ρ n b l → let o = runCallOf l in
+      (getD (o .numbers) 1 0 ≤ l .budget) × ((k : ℕ) → ¬ (refAt p ρ zeros k .stop ≡ 0) → b .steps + getD (o .numbers) 1 0 ≤ k + 2 * n)
+  -- "so accepted runs given budget, readings and room, with no recovery between, reach that stop": the first of the last run's numbers, ended, is its kind
+  pub stops : b .good ≡ true → (k : ℕ) → ¬ (refAt p ρ zeros k .stop ≡ 0) → (j : ℕ) (o : RunLeft) (b′ : Board) → Chain p ws ρ n k b j o b′ → k + 2 * n ≤ j
+      → (o .result ≡ 0) × (getD (o .numbers) 0 0 ≡ refAt p ρ zeros k .stop)
   -- "recovery never gives 12", whatever state it is lent; one of the right length is restored, unless the chip is too long
   pub not-damaged : (state left : List ℕ) (result : ℕ) → RecoverCall p ws (b .chip) state left result → ¬ (result ≡ 12)
   pub restores : n ≤ 65536 → (state left : List ℕ) (result : ℕ) → length state ≡ stateSize → RecoverCall p ws (b .chip) state left result → result ≡ 0

@@ -20,7 +20,7 @@ use Rattle.run.specs.Run.{Call, lateRefusal, refusalOf, runOf}
 use Rattle.step.specs.Ready.{Legal, Good}
 use Rattle.run.proofs.Laws.{good-run}
 use Rattle.run.proofs.Calls.{late-left}
-use Rattle.step.proofs.Tables.{ready}
+use Rattle.step.proofs.Tables.{legal, ready}
 
 -- what an accepted call relies on
 pub record Accepts (e : Env) (m : Machine) : Type 0 where
@@ -36,7 +36,7 @@ not-refused {e} {m} a =
 
 -- check's answer with the number 0 is that of an accepted program
 number-legal : (p : List ℕ) (r : Checked) → r ≡ checkOf p → numberOf r ≡ 0 → Legal p
-number-legal p (checked.Program a b x) h z = record { cells = a; instructions = b; excludes = x; accepted = sym h }
+number-legal p (checked.Program a b x) h z = legal h
 number-legal p (checked.Refused n) h z = absurd (omega (arith, accepted-values (subst (λ r. Ruled p (answerOf r)) (sym h) (ruled p)) z))
 
 -- so what is not refused is accepted

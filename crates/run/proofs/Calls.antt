@@ -25,10 +25,6 @@ use Rattle.run.specs.Standing.{standing, RunIs}
 
 -- ---- an accepted program
 
--- check's answer tells it
-pub legal : {p : List ℕ} (a b x : ℕ) → Checks p (checked.Program a b x) → Legal p
-legal a b x h = record { cells = a; instructions = b; excludes = x; accepted = sym (h .is) }
-
 -- it is not empty and not too long
 pub size : {p : List ℕ} → Legal p → (0 < length p) × (length p ≤ 2048)
 size h = let a = accepted _ (sym (h .accepted)) in (a .some, a .most)

@@ -4,6 +4,7 @@ pub mod Laws
 mod Starting
 mod Along
 pub mod Accepting
+pub mod Ruling
 mod Flowing
 mod Calls
 mod Turns

@@ -1,7 +1,8 @@
 -- A run: "Run is given a budget of steps and repeats steps".
 -- Assumes nothing.
-use Prim.Native.Nat.{ℕ, zero, suc, _+_}
-use mathlib.Core.Bool.{cond, _&&_, not}
+use Prim.Native.Nat.{ℕ, zero, suc, _+_, _≤_, _<_}
+use mathlib.Core.Path.{_≡_}
+use mathlib.Core.Bool.{false, cond, _&&_, not}
 use mathlib.Core.List.{List, [], _∷_, _++_}
 use mathlib.Core.Option.{Option, none, some}
 use lib.IntN.{ℤ, pos}
@@ -9,6 +10,7 @@ use lib.ListN.{length, getD}
 use lib.Seq.{sets}
 use lib.Dec.{eqb, ltb}
 use Rattle.program.specs.Check.{Answer, numberOf, checkOf}
+use Rattle.program.specs.Grounds.{Allowed, CallGround}
 use Rattle.run.specs.declared.Ended.{Ended}
 use Rattle.run.specs.declared.Ended.the-variants.{Refused, Stopped, Spent, NoReading, BufferFull}
 use Rattle.step.specs.State.{Env, Machine, soundOf}
@@ -108,10 +110,31 @@ callOf e ρ budget m outs =
     let n = refusalOf e m in
     cond (eqb n 0) (outcomeOf (runOf e ρ (length outs) budget (started m)) outs) (refusedWith n m outs)
 
--- 01's number and values of an answer: "It answers the one found, a stop with its kind"; the kinds of ending are INTERFACE's 1 to 6
+-- 01's number and values of an answer: "It answers the one found, a stop with its kind"; the kinds of ending are those of include/pitskelo.h, 1 to 6
 abbrev pub answerOf : Ended → Answer
 answerOf (Refused n) = record { number = n; values = [] }
 answerOf (Stopped k) = record { number = 0; values = k ∷ [] }
 answerOf Spent = record { number = 0; values = 4 ∷ [] }
 answerOf NoReading = record { number = 0; values = 5 ∷ [] }
 answerOf BufferFull = record { number = 0; values = 6 ∷ [] }
+
+-- the grounds of its refusals, from the rows of document 01's table: 1 to 8 check's, 9 "a word buffer too short", 10 "state not sound", 11 "chip over 65,536 bytes"
+pub data LateGround (p : List ℕ) (m : Machine) : ℕ → Type 0 where
+  state : soundOf p m ≡ false → LateGround p m 10
+  size : 65536 < length (m .journal) → LateGround p m 11
+
+abbrev pub Ground : Env → Machine → ℕ → Type 0
+Ground e m = CallGround (e .program) (length (e .sets) < 512) (LateGround (e .program) m)
+
+-- the value that a run answers which stands at c, with so much budget, n readings and room for outputs: the kind of stop, 4 budget spent, 5 "the step due is a READ with no reading
+-- left", 6 "it is an EMIT with the output buffer full"
+pub data Kind (p : List ℕ) (budget n room : ℕ) (c : Call) : List ℕ → Type 0 where
+  stopped : ¬ (c .machine .regs .stop ≡ 0) → Kind p budget n room c (c .machine .regs .stop ∷ [])
+  spent : c .machine .regs .stop ≡ 0 → budget ≤ c .steps → Kind p budget n room c (4 ∷ [])
+  no-reading : c .machine .regs .stop ≡ 0 → c .steps < budget → dueOpcode p (c .machine) ≡ 0x07 → c .taken ≡ n → Kind p budget n room c (5 ∷ [])
+  buffer-full : c .machine .regs .stop ≡ 0 → c .steps < budget → dueOpcode p (c .machine) ≡ 0x08 → length (c .given) ≡ room → Kind p budget n room c (6 ∷ [])
+
+-- what a call promises of its outcome: it is the defined one, and in 01's terms the answer is the one that the grounds allow, in rising order
+pub record CallIs (e : Env) (ρ : List ℤ) (budget : ℕ) (m : Machine) (outs : List ℤ) (o : Outcome) : Type 0 where
+  pub is : o ≡ callOf e ρ budget m outs
+  pub ruled : Allowed (Ground e m) (Kind (e .program) budget (length ρ) (length outs) (runOf e ρ (length outs) budget (started m) .call)) (answerOf (o .ended))

@@ -1,6 +1,6 @@
 // A run (document 01: "Run is given a budget of steps and repeats steps"): the refusals, and steps of crate `step` until an
 // exit. Proved, for any program, words, state, journal, readings, outputs' places and budget: answer and buffers are
-// `callOf` of specs/Run.antt.
+// `CallIs` of specs/Run.antt.
 mod quiet;
 mod run;
 mod stretch;
@@ -18,7 +18,7 @@ ghost use Prim.Native.Nat.{ℕ};
 ghost use lib.ListN.{length};
 ghost use Rattle.program.specs.Places.{Places};
 ghost use Rattle.step.specs.State.{envOf, machineOf};
-ghost use Rattle.run.specs.Run.{lateRefusal, outcome, callOf};
+ghost use Rattle.run.specs.Run.{lateRefusal, outcome, CallIs};
 ghost use Rattle.step.specs.Ready.{Legal};
 
 // How a run ended: refused, stopped with its kind, budget spent, no reading left, output buffer full.
@@ -120,7 +120,7 @@ pub fn run_in_place(
     budget: u64,
 ) -> Stand
     requires { ⌜ Legal (now program) × Places (now program) (now table) × (length (now cells) ≡ 256) × (length (now marks) ≡ 256) ⌝ }
-    ensures { λ s. ⌜ outcome (s .ended) (machineOf (s .pass .regs) (now (cells .exit)) (now (marks .exit)) (now (journal .exit))) (s .pass .steps) (s .pass .taken) (s .pass .written) (now (outputs .exit)) ≡ callOf (envOf (now (program .entry)) (now (sets .entry))) (now (readings .entry)) budget (machineOf start (now (cells .entry)) (now (marks .entry)) (now (journal .entry))) (now (outputs .entry)) ⌝ }
+    ensures { λ s. ⌜ CallIs (envOf (now (program .entry)) (now (sets .entry))) (now (readings .entry)) budget (machineOf start (now (cells .entry)) (now (marks .entry)) (now (journal .entry))) (now (outputs .entry)) (outcome (s .ended) (machineOf (s .pass .regs) (now (cells .exit)) (now (marks .exit)) (now (journal .exit))) (s .pass .steps) (s .pass .taken) (s .pass .written) (now (outputs .exit))) ⌝ }
 {
     let words = sets.len();
     let number = late_refusal(start, program, table, words, cells, marks, journal.len());
@@ -153,7 +153,7 @@ fn run_legal(
     budget: u64,
 ) -> Ran
     requires { ⌜ Legal (now program) × Places (now program) (now table) ⌝ }
-    ensures { λ r. ⌜ outcome (r .ended) (machineOf (r .state .regs) (r .state .cells) (r .state .marks) (now (journal .exit))) (r .steps) (r .taken) (r .written) (now (outputs .exit)) ≡ callOf (envOf (now (program .entry)) (now (sets .entry))) (now (readings .entry)) budget (machineOf (state .regs) (state .cells) (state .marks) (now (journal .entry))) (now (outputs .entry)) ⌝ }
+    ensures { λ r. ⌜ CallIs (envOf (now (program .entry)) (now (sets .entry))) (now (readings .entry)) budget (machineOf (state .regs) (state .cells) (state .marks) (now (journal .entry))) (now (outputs .entry)) (outcome (r .ended) (machineOf (r .state .regs) (r .state .cells) (r .state .marks) (now (journal .exit))) (r .steps) (r .taken) (r .written) (now (outputs .exit))) ⌝ }
 {
     let regs = state.regs;
     let mut cells = state.cells;
@@ -192,7 +192,7 @@ pub fn run_value(
     outputs: &mut [i32],
     budget: u64,
 ) -> Ran
-    ensures { λ r. ⌜ outcome (r .ended) (machineOf (r .state .regs) (r .state .cells) (r .state .marks) (now (journal .exit))) (r .steps) (r .taken) (r .written) (now (outputs .exit)) ≡ callOf (envOf (now (program .entry)) (now (sets .entry))) (now (readings .entry)) budget (machineOf (state .regs) (state .cells) (state .marks) (now (journal .entry))) (now (outputs .entry)) ⌝ }
+    ensures { λ r. ⌜ CallIs (envOf (now (program .entry)) (now (sets .entry))) (now (readings .entry)) budget (machineOf (state .regs) (state .cells) (state .marks) (now (journal .entry))) (now (outputs .entry)) (outcome (r .ended) (machineOf (r .state .regs) (r .state .cells) (r .state .marks) (now (journal .exit))) (r .steps) (r .taken) (r .written) (now (outputs .exit))) ⌝ }
 {
     let mut table = blank();
     match examine(program, &mut table) {
@@ -223,7 +223,7 @@ pub fn step_value(
     readings: &[i32],
     outputs: &mut [i32],
 ) -> Ran
-    ensures { λ r. ⌜ outcome (r .ended) (machineOf (r .state .regs) (r .state .cells) (r .state .marks) (now (journal .exit))) (r .steps) (r .taken) (r .written) (now (outputs .exit)) ≡ callOf (envOf (now (program .entry)) (now (sets .entry))) (now (readings .entry)) 1 (machineOf (state .regs) (state .cells) (state .marks) (now (journal .entry))) (now (outputs .entry)) ⌝ }
+    ensures { λ r. ⌜ CallIs (envOf (now (program .entry)) (now (sets .entry))) (now (readings .entry)) 1 (machineOf (state .regs) (state .cells) (state .marks) (now (journal .entry))) (now (outputs .entry)) (outcome (r .ended) (machineOf (r .state .regs) (r .state .cells) (r .state .marks) (now (journal .exit))) (r .steps) (r .taken) (r .written) (now (outputs .exit))) ⌝ }
 {
     run_value(state, program, sets, journal, readings, outputs, 1)
 }

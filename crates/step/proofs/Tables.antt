@@ -1,4 +1,4 @@
--- An accepted program has its table of places as a list, and so a run of it what it needs.
+-- An accepted program, by check's answer (`legal`), has its table of places as a list, and so a run of it what it needs.
 -- Assumes nothing.
 use Prim.Native.Nat.{ℕ, zero, suc, _+_, _≤_, _<_}
 use mathlib.Core.Path.{_≡_, refl, sym, _∙_, ap}
@@ -7,13 +7,19 @@ use native.Mathlib.Omega.{arith}
 use lib.ListN.{length, getD}
 use lib.Dec.{ltb}
 use borrow.Author.Tests.{ltb-true, ltb-false}
+use Rattle.program.specs.Check.{checkOf}
 use Rattle.program.specs.Starts.{starts}
 use Rattle.program.specs.Places.{placeOf, entryAt, Places}
+use Rattle.program.specs.declared.Checked.the-variants.{Program}
 use Rattle.program.proofs.Tests.{bool-cases}
 use Rattle.program.proofs.Accepted.{accepted}
 use Rattle.program.proofs.Filling.{none-past}
 use Rattle.step.specs.State.{Env}
 use Rattle.step.specs.Ready.{Legal, Ready}
+
+-- check's answer tells that a program is accepted
+pub legal : {p : List ℕ} {a b x : ℕ} → Program a b x ≡ checkOf p → Legal p
+legal {a = a} {b} {x} h = record { cells = a; instructions = b; excludes = x; accepted = sym h }
 
 -- f of the n numbers from b on
 unfoldable pub tabulated : (ℕ → ℕ) → (b n : ℕ) → List ℕ

@@ -19,10 +19,10 @@ fn cell_number(x: u32) -> u64
     x as u64
 }
 
-fn mark_number(x: u8) -> u64
-    ensures { λ r. ⌜ (r ≡ x) × (r < 4294967296) ⌝ }
+fn mark_number(x: u8) -> u16
+    ensures { λ r. ⌜ (r ≡ x) × (r ≤ 255) ⌝ }
 {
-    x as u64
+    x as u16
 }
 
 // Whether the cells from n on are 0: their sum tells it, with no test in the loop.
@@ -44,7 +44,7 @@ fn marks_clear(marks: &[u8; 256], n: usize) -> bool
     requires { ⌜ n ≤ 256 ⌝ }
     ensures { λ r. ⌜ r ≡ zeroFrom (now (marks .entry)) n (256 - n) ⌝ }
 {
-    let mut sum: u64 = 0;
+    let mut sum: u16 = 0;
     let mut c = n;
     while c < 256 {
         sum += mark_number(marks[c]);
@@ -54,7 +54,7 @@ fn marks_clear(marks: &[u8; 256], n: usize) -> bool
 }
 
 // 1 where a byte is no mark's.
-fn wrong_mark(mark: u8) -> u64
+fn wrong_mark(mark: u8) -> u16
     ensures { λ r. ⌜ (r ≡ cond (leb mark 3) 0 1) × (r ≤ 1) ⌝ }
 {
     if 3 < mark { 1 } else { 0 }
@@ -64,7 +64,7 @@ fn wrong_mark(mark: u8) -> u64
 fn are_marks(marks: &[u8; 256]) -> bool
     ensures { λ r. ⌜ r ≡ marksFrom (now (marks .entry)) 0 256 ⌝ }
 {
-    let mut sum: u64 = 0;
+    let mut sum: u16 = 0;
     let mut c: usize = 0;
     while c < 256 {
         sum += wrong_mark(marks[c]);

@@ -1,32 +1,53 @@
--- `journal::scan` meets its contract: what `walk` finds in what `content` keeps is found in the journal.
+-- `journal::scan` meets its contract: a journal is too long, or what `walk` finds in what `content` keeps is found in it.
 -- Assumes nothing.
 use mathlib.Core.Path.{sym}
 use native.Mathlib.Omega.{arith}
 use lib.Seq.{length-take-le}
 use borrow.Author.Needs.{needs}
-use Rattle.journal.specs.Answer.{factsIn}
-use Rattle.journal.proofs.Joining.{joined}
+use Rattle.journal.proofs.Fixed.{scan-is}
+use Rattle.journal.proofs.Joining.{joined, long-scanned}
 use Rattle.journal.proofs.scan.Statement.{statement}
 use Rattle.journal.proofs.scan.Tie as tie
+
+refused-requires : tie.Need-refused-requires
+refused-requires c κs = search needs
+
+returns : tie.Need-returns
+returns c =
+    let r = c .refused .result in
+    scan-is _ _ (r .answer) (r .values) (long-scanned _ _ r (omega (arith, c .before .if1 .taken)) (c .refused .ensures))
 
 content-requires : tie.Need-content-requires
 content-requires c κs = search needs
 
 slice-aggregate-walk : tie.Need-slice-aggregate-walk
-slice-aggregate-walk c = sym (length-take-le _ (c .before .before .before .args .journal .now) (c .before .content .ensures .most))
+slice-aggregate-walk c = sym (length-take-le _ (c .before .before .before .before .args .journal .now) (c .before .content .ensures .most))
+
+add-walk : tie.Need-add-walk
+add-walk c = search needs
 
 walk-requires : tie.Need-walk-requires
 walk-requires c κs =
     let t = c .before .content in
-    let n = length-take-le (t .result) (c .before .before .before .args .journal .now) (t .ensures .most) in
-    let pre = c .before .before .before .pre in
-    (omega (arith, n, t .ensures .most, pre .0), pre .1)
+    let s = c .before .before .before .before in
+    let n = length-take-le (t .result) (s .args .journal .now) (t .ensures .most) in
+    (omega (arith, n, t .ensures .most, c .before .before .if1 .left), omega (arith, s .fits .highest))
 
-returns : tie.Need-returns
-returns c =
-    let a = c .before .before .before .before .args in
+returns-2 : tie.Need-returns-2
+returns-2 c =
+    let at-content = c .before .before in
     let r = c .walk .result in
-    joined (factsIn (a .n) (a .table .now)) (r .answer) (r .values) (c .before .before .content .ensures) (c .walk .ensures)
+    scan-is _ _ (r .answer) (r .values)
+    (joined _ (r .answer) (r .values) (omega (arith, at-content .before .if1 .left)) (at-content .content .ensures) (c .walk .ensures))
 
 pub scan-spec : {M : Type 1} → statement M
-scan-spec = tie.close (tie.spec content-requires slice-aggregate-walk walk-requires returns)
+scan-spec =
+    tie.close
+    (tie.spec
+    refused-requires
+    returns
+    content-requires
+    slice-aggregate-walk
+    add-walk
+    walk-requires
+    returns-2)

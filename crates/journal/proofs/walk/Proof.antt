@@ -100,15 +100,15 @@ returns c =
 enum-told-3 : tie.Need-enum-told-3 Inv-loop μ-loop
 enum-told-3 c = search needs
 
-damaged-requires : tie.Need-damaged-requires Inv-loop μ-loop
-damaged-requires c κs = search needs
+refused-requires : tie.Need-refused-requires Inv-loop μ-loop
+refused-requires c κs = search needs
 
 returns-2 : tie.Need-returns-2 Inv-loop μ-loop
 returns-2 c =
     let w = c .before .before .before .before .before .before .before .before .loop .inv in
     let p = c .before .before .before .before .before .records-end .ensures in
     let test = c .before .before .before .before .before .before .before .loop-test .taken in
-    walk-damaged (c .damaged .ensures) (walking-bad w p (c .before .before .before .tail-at .ensures) (c .before .enum-told3 .given .1) test)
+    walk-damaged (c .refused .ensures) (walking-bad w p (c .before .before .before .tail-at .ensures) (c .before .enum-told3 .given .1) test)
 
 found-requires-2 : tie.Need-found-requires-2 Inv-loop μ-loop
 found-requires-2 c κs = search needs
@@ -139,7 +139,7 @@ walk-spec =
     found-requires
     returns
     enum-told-3
-    damaged-requires
+    refused-requires
     returns-2
     found-requires-2
     returns-3)

@@ -41,7 +41,7 @@ returns-2 : tie.Need-returns-2
 returns-2 c =
     let r = c .before .before in
     refused-recovery _ _ _ _ _ (r .before .before .before .before .before .before .if1 .left) (r .before .before .before .before .before .word-count .ensures) (r .before .before .before .before .load-words .ensures .1) (r .before .before .load-state .ensures)
-    (r .recover-value .ensures) (c .before .restored .ensures) (c .if2 .taken)
+    (r .recover-value .ensures .recovers) (c .before .restored .ensures) (c .if2 .taken)
 
 store-state-requires : tie.Need-store-state-requires
 store-state-requires c κs = search needs
@@ -53,7 +53,7 @@ returns-3 : tie.Need-returns-3
 returns-3 c =
     let r = c .before .before .before .before .before .before .before in
     done-recovery _ _ _ _ _ (r .before .before .before .before .before .before .if1 .left) (r .before .before .before .before .before .word-count .ensures) (r .before .before .before .before .load-words .ensures .1) (r .before .before .load-state .ensures)
-    (r .recover-value .ensures) (c .before .before .before .before .before .before .restored .ensures) (c .before .before .before .before .before .if2 .left) (c .before .before .store-state .ensures)
+    (r .recover-value .ensures .recovers) (c .before .before .before .before .before .before .restored .ensures) (c .before .before .before .before .before .if2 .left) (c .before .before .store-state .ensures)
 
 pub pitskelo-recover-spec : {M : Type 1} → statement M
 pitskelo-recover-spec =

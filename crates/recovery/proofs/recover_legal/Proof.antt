@@ -1,27 +1,26 @@
--- `recovery::recover_legal` meets its contract: one of the refusals 9, 11 and 12, or the state that the journal holds.
+-- `recovery::recover_legal` meets its contract: refusal 9, or what is made of scan's answer.
 -- Assumes nothing.
 use Prim.Native.Nat.{_≤_}
 use native.Mathlib.Omega.{arith}
 use lib.ListN.{length}
-use Rattle.recovery.proofs.Recovering.{Answered, answered, refused-words, refused-journal, refused-damaged, restored, found-within, found-exclude}
+use Rattle.recovery.proofs.Recovering.{Answered, answered, refused-words, refused-chip, restored, found-within, found-exclude}
 use borrow.Author.Needs.{needs}
 use Rattle.recovery.proofs.recover_legal.Statement.{statement}
 use Rattle.recovery.proofs.recover_legal.Tie as tie
 
 -- the function's beginning, seen from where nothing was refused
-abbrev start : tie.Else2 → tie.Start
-start c = c .before .before .before .before .before
+abbrev start : tie.Else1 → tie.Start
+start c = c .before .before .before .before
 
 -- what is known when scan has answered
 answers : (c : tie.After-scan)
-    → let s = start (c .before) .args in
+    → let s = start (c .before .before) .args in
     Answered (s .program .now) (s .sets .now) (s .table .now) (s .journal .now) (c .scan .result .answer) (c .scan .result .values)
 answers c =
-    let short = c .before in
-    let s = start short in
-    let words : 512 ≤ length (s .args .sets .now) = omega (arith, short .before .if1 .left) in
-    let size : length (s .args .journal .now) ≤ 65536 = omega (arith, short .if2 .left) in
-    answered _ _ _ _ (s .pre .0, s .pre .2) (s .pre .1) words size (c .scan .ensures)
+    let long = c .before .before in
+    let s = start long in
+    let words : 512 ≤ length (s .args .sets .now) = omega (arith, long .if1 .left) in
+    answered _ _ _ _ (s .pre .0) (s .pre .1) words (c .before .byte-at .ensures) (c .scan .ensures .scans)
 
 refused-requires : tie.Need-refused-requires
 refused-requires c κs = search needs
@@ -29,22 +28,22 @@ refused-requires c κs = search needs
 returns : tie.Need-returns
 returns c =
     let s = c .before .before .before .before .before in
-    rw (c .refused .ensures) (refused-words _ _ _ (s .pre .0) (c .before .if1 .taken))
+    rw (c .refused .ensures) (refused-words _ _ _ (s .pre .0) (omega (arith, c .before .if1 .taken)))
+
+byte-at-requires : tie.Need-byte-at-requires
+byte-at-requires c κs = search needs
+
+scan-requires : tie.Need-scan-requires
+scan-requires c κs = search needs
+
+enum-told : tie.Need-enum-told
+enum-told c = search needs
 
 refused-requires-2 : tie.Need-refused-requires-2
 refused-requires-2 c κs = search needs
 
-returns-2 : tie.Need-returns-2
-returns-2 c =
-    let s = c .before .before .before .before .before .before in
-    rw (c .refused2 .ensures) (refused-journal _ _ _ (s .pre .0) (c .before .before .if1 .left) (c .before .if2 .taken))
-
-scan-requires : tie.Need-scan-requires
-scan-requires c κs =
-    (c .if2 .left, omega (arith, start c .pre .2, c .before .before .before .before .shared-slice-known .given 0))
-
-enum-told : tie.Need-enum-told
-enum-told c = search needs
+enum-told-2 : tie.Need-enum-told-2
+enum-told-2 c = search needs
 
 refused-requires-3 : tie.Need-refused-requires-3
 refused-requires-3 c κs = search needs
@@ -63,8 +62,13 @@ marks-by-requires c κs =
     let found = c .before .before .before in
     found-exclude (answers (found .before .before .before)) (found .answer .given .1)
 
+returns-2 : tie.Need-returns-2
+returns-2 c =
+    rw (c .refused2 .ensures) (refused-chip (answers (c .before .before .before .before)) _ _ _ (c .before .enum-told .given .1) (omega arith) (omega arith))
+
 returns-3 : tie.Need-returns-3
-returns-3 c = rw (c .refused3 .ensures) (refused-damaged (answers (c .before .before .before .before)) _ _ _ (c .before .enum-told .given .1))
+returns-3 c =
+    rw (c .refused3 .ensures) (refused-chip (answers (c .before .before .before .before)) _ _ _ (c .before .enum-told2 .given .1) (omega arith) (omega arith))
 
 returns-4 : tie.Need-returns-4
 returns-4 c =
@@ -78,14 +82,16 @@ recover-legal-spec =
     (tie.spec
     refused-requires
     returns
-    refused-requires-2
-    returns-2
+    byte-at-requires
     scan-requires
     enum-told
+    refused-requires-2
+    enum-told-2
     refused-requires-3
     enum-known-answer
     regs-of-requires
     cast-marks-by
     marks-by-requires
+    returns-2
     returns-3
     returns-4)

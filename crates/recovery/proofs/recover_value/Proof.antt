@@ -1,6 +1,9 @@
 -- `recovery::recover_value` meets its contract: check's refusal, or what is left for an accepted program.
 -- Assumes nothing.
-use Rattle.recovery.proofs.Recovering.{legal, refused-program}
+use mathlib.Core.Path.{sym, _∙_}
+use Rattle.step.proofs.Tables.{legal}
+use Rattle.recovery.proofs.Recovering.{refused-program}
+use Rattle.recovery.proofs.Ruling.{recover-is}
 use borrow.Author.Needs.{needs}
 use Rattle.recovery.proofs.recover_value.Statement.{statement}
 use Rattle.recovery.proofs.recover_value.Tie as tie
@@ -17,24 +20,22 @@ enum-known-number c = search needs
 refused-requires : tie.Need-refused-requires
 refused-requires c κs = search needs
 
-enum-known-cells : tie.Need-enum-known-cells
-enum-known-cells c = search needs
-
-cast-recover-legal : tie.Need-cast-recover-legal
-cast-recover-legal c = search needs
+enum-told : tie.Need-enum-told
+enum-told c = search needs
 
 recover-legal-requires : tie.Need-recover-legal-requires
 recover-legal-requires c κs =
-    let told = c .before .before .cells .given .1 in
-    let answer = c .before .before .before .before .examine .ensures in
-    let known = legal (rw told at (answer .checks)) in
-    (known .0, answer .places _ _ _ told, known .1)
+    let told = c .before .enum-told .given .1 in
+    let answer = c .before .before .before .examine .ensures in
+    (legal (sym told ∙ answer .checks .is), answer .places _ _ _ told)
 
 returns : tie.Need-returns
-returns c = rw (c .refused .ensures) (refused-program _ _ _ (rw (c .before .before .number .given .1) at (c .before .before .before .before .examine .ensures .checks)))
+returns c =
+    recover-is _ _ _
+    (rw (c .refused .ensures) (refused-program _ _ _ (rw (c .before .before .number .given .1) at (c .before .before .before .before .examine .ensures .checks))))
 
 returns-2 : tie.Need-returns-2
-returns-2 c = search needs
+returns-2 c = recover-is _ _ _ (c .recover-legal .ensures)
 
 pub recover-value-spec : {M : Type 1} → statement M
 recover-value-spec =
@@ -44,8 +45,7 @@ recover-value-spec =
     examine-requires
     enum-known-number
     refused-requires
-    enum-known-cells
-    cast-recover-legal
+    enum-told
     recover-legal-requires
     returns
     returns-2)

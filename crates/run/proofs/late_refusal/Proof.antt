@@ -1,11 +1,12 @@
 -- `run::late_refusal` meets its contract: the tests of the refusals 9 to 11, in their order.
 -- Assumes nothing.
+use native.Mathlib.Omega.{arith}
 use Rattle.run.proofs.Calls.{size, late-words, late-state, late-chip, late-none}
 use Rattle.run.proofs.late_refusal.Statement.{statement}
 use Rattle.run.proofs.late_refusal.Tie as tie
 
 returns : tie.Need-returns
-returns c = λ l h. late-words _ _ _ (c .if1 .taken)
+returns c = λ l h. late-words _ _ _ (omega (arith, c .if1 .taken))
 
 sound-requires : tie.Need-sound-requires
 sound-requires c κs = let h = c .before .before .pre in (h .1, size (h .0) .0, size (h .0) .1)

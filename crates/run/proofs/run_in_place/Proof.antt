@@ -2,6 +2,7 @@
 -- Assumes nothing.
 use mathlib.Core.Path.{refl}
 use Rattle.run.proofs.Calls.{refused-late, accepted-run, ready}
+use Rattle.run.proofs.Ruling.{call-is}
 use borrow.Author.Needs.{needs}
 use Rattle.run.proofs.run_in_place.Statement.{statement}
 use Rattle.run.proofs.run_in_place.Tie as tie
@@ -15,7 +16,8 @@ refused-at-requires c κs = search needs
 returns : tie.Need-returns
 returns c =
     let s = c .before .before .before .before .before .before .before .before in
-    rw (c .refused-at .ensures) (refused-late _ _ _ _ _ _ (s .pre .0) (c .before .before .late-refusal .ensures _ refl) (c .before .if1 .taken))
+    call-is _ _ _ _ _
+    (rw (c .refused-at .ensures) (refused-late _ _ _ _ _ _ (s .pre .0) (c .before .before .late-refusal .ensures _ refl) (c .before .if1 .taken)))
 
 run-requires : tie.Need-run-requires
 run-requires c κs =
@@ -34,7 +36,7 @@ returns-2 c =
     let ran = c .before .before .before in
     let left = ran .before .before .before .before .before in
     let s = left .before .before .before .before .before .before .before in
-    accepted-run _ _ _ _ _ _ (s .pre .0) (left .before .late-refusal .ensures _ refl) (left .if1 .left) (ran .run .ensures)
+    call-is _ _ _ _ _ (accepted-run _ _ _ _ _ _ (s .pre .0) (left .before .late-refusal .ensures _ refl) (left .if1 .left) (ran .run .ensures))
 
 pub run-in-place-spec : {M : Type 1} → statement M
 run-in-place-spec =

@@ -1,6 +1,9 @@
 -- `run::run_value` meets its contract: check's refusal, or what the call of an accepted program leaves.
 -- Assumes nothing.
-use Rattle.run.proofs.Calls.{legal, refused-early}
+use mathlib.Core.Path.{sym, _∙_}
+use Rattle.step.proofs.Tables.{legal}
+use Rattle.run.proofs.Calls.{refused-early}
+use Rattle.run.proofs.Ruling.{call-is}
 use borrow.Author.Needs.{needs}
 use Rattle.run.proofs.run_value.Statement.{statement}
 use Rattle.run.proofs.run_value.Tie as tie
@@ -24,10 +27,12 @@ run-legal-requires : tie.Need-run-legal-requires
 run-legal-requires c κs =
     let told = c .before .before .before .enum-told .given .1 in
     let answer = c .before .before .before .before .before .examine .ensures in
-    (legal _ _ _ (rw told at (answer .checks)), answer .places _ _ _ told)
+    (legal (sym told ∙ answer .checks .is), answer .places _ _ _ told)
 
 returns : tie.Need-returns
-returns c = rw (c .refused .ensures) (refused-early _ _ _ _ _ _ (rw (c .before .before .number .given .1) at (c .before .before .before .before .examine .ensures .checks)))
+returns c =
+    call-is _ _ _ _ _
+    (rw (c .refused .ensures) (refused-early _ _ _ _ _ _ (rw (c .before .before .number .given .1) at (c .before .before .before .before .examine .ensures .checks))))
 
 same-length : tie.Need-same-length
 same-length c = search needs

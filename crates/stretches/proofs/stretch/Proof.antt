@@ -60,7 +60,7 @@ store-signed-requires c κs =
     let ran = c .before .before .before .before .before .before in
     let m = ran .before .before .before .before .before .before .before .before .before .before in
     let start = m .before .before .before .before .before .before .before .before .before .before in
-    store-fits (start .args .outputs .now) (start .args .b .written) (m .at-most2 .ensures .0) _ (m .at-most2 .ensures .1) _ _ _ (ran .run-in-place .ensures)
+    store-fits (start .args .outputs .now) (start .args .b .written) (m .at-most2 .ensures .0) _ (m .at-most2 .ensures .1) _ _ _ (ran .run-in-place .ensures .is)
     (ran .run-in-place .kept .1 .1 .1 .1 .1 .1 .1 .1 .0) (start .pre .6 .written)
 
 same-length : tie.Need-same-length
@@ -81,7 +81,7 @@ returns c =
     let m = ran .before .before .before .before .before .before .before .before .before .before in
     let n = m .before .before in
     let start = n .before .before .before .before .before .before .before .before in
-    stretch-is _ _ (m .at-most2 .ensures .0) _ (m .at-most2 .ensures .1) _ _ _ (ran .run-in-place .ensures) (ran .run-in-place .kept .1 .1 .1 .1 .1 .1 .1 .1 .0) _
+    stretch-is _ _ (m .at-most2 .ensures .0) _ (m .at-most2 .ensures .1) _ _ _ (ran .run-in-place .ensures .is) (ran .run-in-place .kept .1 .1 .1 .1 .1 .1 .1 .1 .0) _
     (start .args .b .taken) (n .at-most .ensures .0) (start .pre .6 .taken) (ran .before .before .before .before .before .before .before .load-signed .ensures) (c .before .before .store-signed .ensures)
 
 pub stretch-spec : {M : Type 1} → statement M

@@ -1,25 +1,36 @@
--- `journal::fields::fields_begin` meets its contract: a test that fails tells of its field, and where none does the last byte decides.
+-- `journal::fields::fields_begin` meets its contract: where all bytes are there `fields_whole` decides; else a test that fails tells of its field, and
+-- where none does the last byte is past the end.
 -- Assumes nothing.
 use mathlib.Core.List.{[], _∷_}
 use Prim.Native.Nat.{ℕ, _+_}
+use native.Mathlib.Omega.{arith}
 use lib.ListN.{drop}
 use borrow.Author.Tests.{not-true, not-false}
 use borrow.Author.Needs.{needs}
 use Rattle.journal.specs.Answer.{factsIn}
 use Rattle.journal.specs.Parts.{Meets, Fields}
 use Rattle.journal.proofs.Meeting.{decides-yes, decides-no, past-meets}
-use Rattle.journal.proofs.Fieldwise.{fields-parts, parts-fields, last-decides}
+use Rattle.journal.proofs.Fieldwise.{fields-parts, parts-fields}
 use Rattle.journal.proofs.fields.fields_begin.Statement.{statement}
 use Rattle.journal.proofs.fields.fields_begin.Tie as tie
+
+add-if1 : tie.Need-add-if1
+add-if1 c = search needs
+
+fields-whole-requires : tie.Need-fields-whole-requires
+fields-whole-requires c κs = search needs
+
+returns : tie.Need-returns
+returns c n = c .fields-whole .ensures n
 
 offset-begins-requires : tie.Need-offset-begins-requires
 offset-begins-requires c κs = search needs
 
-returns : tie.Need-returns
-returns c n f =
-    let s = c .before .before .before in
+returns-2 : tie.Need-returns-2
+returns-2 c n f =
+    let s = c .before .before .before .before in
     let d = c .before .offset-begins in
-    decides-no (d .result) (not-true (d .result) (c .if1 .taken)) (d .ensures n) (fields-parts (s .args .l .now) (s .args .i) f .place)
+    decides-no (d .result) (not-true (d .result) (c .if2 .taken)) (d .ensures n) (fields-parts (s .args .l .now) (s .args .i) f .place)
 
 add-offset-begins : tie.Need-add-offset-begins
 add-offset-begins c = search needs
@@ -27,11 +38,11 @@ add-offset-begins c = search needs
 offset-begins-requires-2 : tie.Need-offset-begins-requires-2
 offset-begins-requires-2 c κs = search needs
 
-returns-2 : tie.Need-returns-2
-returns-2 c n f =
-    let s = c .before .before .before .before .before in
+returns-3 : tie.Need-returns-3
+returns-3 c n f =
+    let s = c .before .before .before .before .before .before in
     let d = c .before .offset-begins2 in
-    decides-no (d .result) (not-true (d .result) (c .if2 .taken)) (d .ensures n) (fields-parts (s .args .l .now) (s .args .i) f .exclude)
+    decides-no (d .result) (not-true (d .result) (c .if3 .taken)) (d .ensures n) (fields-parts (s .args .l .now) (s .args .i) f .exclude)
 
 add-count-begins : tie.Need-add-count-begins
 add-count-begins c = search needs
@@ -39,11 +50,11 @@ add-count-begins c = search needs
 count-begins-requires : tie.Need-count-begins-requires
 count-begins-requires c κs = search needs
 
-returns-3 : tie.Need-returns-3
-returns-3 c n f =
-    let s = c .before .before .before .before .before .before .before in
+returns-4 : tie.Need-returns-4
+returns-4 c n f =
+    let s = c .before .before .before .before .before .before .before .before in
     let d = c .before .count-begins in
-    decides-no (d .result) (not-true (d .result) (c .if3 .taken)) (d .ensures) (fields-parts (s .args .l .now) (s .args .i) f .readings)
+    decides-no (d .result) (not-true (d .result) (c .if4 .taken)) (d .ensures) (fields-parts (s .args .l .now) (s .args .i) f .readings)
 
 add-count-begins-2 : tie.Need-add-count-begins-2
 add-count-begins-2 c = search needs
@@ -51,66 +62,44 @@ add-count-begins-2 c = search needs
 count-begins-requires-2 : tie.Need-count-begins-requires-2
 count-begins-requires-2 c κs = search needs
 
-returns-4 : tie.Need-returns-4
-returns-4 c n f =
-    let s = c .before .before .before .before .before .before .before .before .before in
+returns-5 : tie.Need-returns-5
+returns-5 c n f =
+    let s = c .before .before .before .before .before .before .before .before .before .before in
     let d = c .before .count-begins2 in
-    decides-no (d .result) (not-true (d .result) (c .if4 .taken)) (d .ensures) (fields-parts (s .args .l .now) (s .args .i) f .outputs)
+    decides-no (d .result) (not-true (d .result) (c .if5 .taken)) (d .ensures) (fields-parts (s .args .l .now) (s .args .i) f .outputs)
 
-add-if5 : tie.Need-add-if5
-add-if5 c = search needs
-
--- the four numbers are begun
-all-four : (c : tie.Else4) (n : ℕ) → let a = c .before .before .before .before .before .before .before .before .before .args in
-    Meets (0x5A ∷ []) (drop (a .i + 12) (a .l .now)) → Fields (factsIn n (a .table .now)) (a .last) (drop (a .i) (a .l .now))
-all-four c n m =
-    let s = c .before .before .before .before .before .before .before .before .before in
+returns-6 : tie.Need-returns-6
+returns-6 c n =
+    let s = c .before .before .before .before .before .before .before .before .before .before in
     let p = c .before .before .before .before .before .before .before .offset-begins in
     let x = c .before .before .before .before .before .offset-begins2 in
     let r = c .before .before .before .count-begins in
     let o = c .before .count-begins2 in
     parts-fields (s .args .l .now) (s .args .i)
     (record {
-      place = decides-yes (p .result) (not-false (p .result) (c .before .before .before .before .before .before .if1 .left)) (p .ensures n);
-      exclude = decides-yes (x .result) (not-false (x .result) (c .before .before .before .before .if2 .left)) (x .ensures n);
-      readings = decides-yes (r .result) (not-false (r .result) (c .before .before .if3 .left)) (r .ensures);
-      outputs = decides-yes (o .result) (not-false (o .result) (c .if4 .left)) (o .ensures);
-      end = m;
+      place = decides-yes (p .result) (not-false (p .result) (c .before .before .before .before .before .before .if2 .left)) (p .ensures n);
+      exclude = decides-yes (x .result) (not-false (x .result) (c .before .before .before .before .if3 .left)) (x .ensures n);
+      readings = decides-yes (r .result) (not-false (r .result) (c .before .before .if4 .left)) (r .ensures);
+      outputs = decides-yes (o .result) (not-false (o .result) (c .if5 .left)) (o .ensures);
+      end = past-meets (0x5A ∷ []) (s .args .l .now) (s .args .i + 12) (omega arith);
     })
-
-returns-5 : tie.Need-returns-5
-returns-5 c n =
-    let s = c .before .before .before .before .before .before .before .before .before .before in
-    all-four (c .before) n (past-meets (0x5A ∷ []) (s .args .l .now) (s .args .i + 12) (c .if5 .taken))
-
-add-result : tie.Need-add-result
-add-result c = search needs
-
-shared-slice-read-result : tie.Need-shared-slice-read-result
-shared-slice-read-result c = search needs
-
-returns-6 : tie.Need-returns-6
-returns-6 c n =
-    let s = c .before .before .before .before .before .before .before .before .before .before .before in
-    last-decides (s .args .l .now) (s .args .i) (c .before .if5 .left) (all-four (c .before .before) n)
 
 pub fields-begin-spec : {M : Type 1} → statement M
 fields-begin-spec =
     tie.close
     (tie.spec
-    offset-begins-requires
+    add-if1
+    fields-whole-requires
     returns
+    offset-begins-requires
+    returns-2
     add-offset-begins
     offset-begins-requires-2
-    returns-2
+    returns-3
     add-count-begins
     count-begins-requires
-    returns-3
+    returns-4
     add-count-begins-2
     count-begins-requires-2
-    returns-4
-    add-if5
     returns-5
-    add-result
-    shared-slice-read-result
     returns-6)

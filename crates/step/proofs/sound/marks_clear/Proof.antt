@@ -12,7 +12,7 @@ use Rattle.step.proofs.sound.marks_clear.Statement.{statement}
 use Rattle.step.proofs.sound.marks_clear.Tie as tie
 
 abbrev Inv-loop : tie.InvT-loop
-Inv-loop marks n sum₀ c₀ sum c = (c ≤ 256) × (sum ≤ c * 4294967296) × (zeroFrom marks n (256 - n) ≡ (eqb sum 0 && zeroFrom marks c (256 - c)))
+Inv-loop marks n sum₀ c₀ sum c = (c ≤ 256) × (sum ≤ c * 255) × (zeroFrom marks n (256 - n) ≡ (eqb sum 0 && zeroFrom marks c (256 - c)))
 
 abbrev μ-loop : tie.MeasureT-loop
 μ-loop marks n sum₀ c₀ sum c = 256 - c
