@@ -1,7 +1,7 @@
 -- A run that is given enough stops as the reference run stops, or spends its budget; so runs that are given enough in all reach that stop.
 -- Assumes nothing.
 use Prim.Native.Nat.{ℕ, suc, _+_, _-_, _*_, _≤_, _<_}
-use mathlib.Core.Path.{_≡_, sym, _∙_, ap, subst}
+use mathlib.Core.Path.{_≡_, refl, sym, _∙_, ap, subst}
 use mathlib.Core.Bool.{true, false}
 use mathlib.Core.List.{List}
 use mathlib.Core.Logic.{_⊎_, inl, inr, ⊎-elim}
@@ -19,7 +19,7 @@ use Rattle.step.specs.State.{Env, Machine}
 use Rattle.step.specs.Step.{dueOpcode, givenOf}
 use Rattle.run.specs.Run.{Call, stepped, Outcome}
 use Rattle.run.specs.declared.Ended.{Ended}
-use Rattle.run.specs.declared.Ended.the-variants.{Stopped}
+use Rattle.run.specs.declared.Ended.the-variants.{Stopped, Spent}
 use Rattle.run.proofs.Laws.{Exits, stopped, spent, no-reading, buffer-full, taken-one, given-one}
 use Rattle.restart.proofs.Traces as traces
 use Rattle.restart.proofs.Traces.{Trace}
@@ -158,13 +158,15 @@ module _ (p : List ℕ) (ρ : List ℤ) (f₀ : Frame) (plan : Plan p) (n t₀ :
         let q = emit-needs p ρ f₀ k end T (sym (a .stop) ∙ z) b in
         ⊎-elim (λ u. absurd (omega (arith, u, q, X .standing .outputs, e, a .outputs))) (λ u. omega (arith, u, e, trace-counts _ _ _ (X .traced .trace) .1)) (enough .1 .gives)
 
+    -- a stop is the reference run's
+    stop-is : ¬ (X .finish .call .machine .regs .stop ≡ 0) → X .finish .call .machine .regs .stop ≡ refAt p ρ f₀ k .stop
+    stop-is z =
+        let a = X .standing .inv .held .follows in
+        a .stop ∙ ap (λ (f : Frame). f .stop) (same-stop p ρ f₀ k end T (λ u. z (a .stop ∙ u)))
+
     by-exit : {x : Ended} → Exits p (r .budget - X .traced .steps) (length (lent p ρ (s .machine) r)) (length (r .places)) (X .finish .call) x
         → Reached (refAt p ρ f₀ k .stop) j x (X .traced .steps) (X .finish .call .machine)
-    by-exit (stopped z) =
-        let a = X .standing .inv .held .follows in
-        let e : X .finish .call .machine .regs .stop ≡ refAt p ρ f₀ k .stop =
-        a .stop ∙ ap (λ (f : Frame). f .stop) (same-stop p ρ f₀ k end T (λ u. z (a .stop ∙ u))) in
-        stops (ap Stopped e) z
+    by-exit (stopped z) = stops (ap Stopped (stop-is z)) z
     by-exit (spent z l) = runs-on (omega (arith, l, enough .1 .steps)) z
     by-exit (no-reading z l d e) = runs-on (at-read z d e) z
     by-exit (buffer-full z l d e) = runs-on (at-emit z d e) z
@@ -177,6 +179,18 @@ module _ (p : List ℕ) (ρ : List ℤ) (f₀ : Frame) (plan : Plan p) (n t₀ :
       where
         z : 0 + X .traced .steps ≡ X .traced .steps
         z = omega arith
+
+    -- where the j steps are its whole budget, nothing else than that ends it before the stop
+    whole-exit : r .budget ≤ j → {x : Ended} → Exits p (r .budget - X .traced .steps) (length (lent p ρ (s .machine) r)) (length (r .places)) (X .finish .call) x
+        → (x ≡ Spent) ⊎ (x ≡ Stopped (refAt p ρ f₀ k .stop))
+    whole-exit w (stopped z) = inr (ap Stopped (stop-is z))
+    whole-exit w (spent z l) = inl refl
+    whole-exit w (no-reading z l d e) = absurd (omega (arith, w, l, at-read z d e))
+    whole-exit w (buffer-full z l d e) = absurd (omega (arith, w, l, at-emit z d e))
+
+    pub whole-spent : r .budget ≤ j → let x = outcomeOf p ρ (s .machine) r .ended in (x ≡ Spent) ⊎ (x ≡ Stopped (refAt p ρ f₀ k .stop))
+    whole-spent w =
+        subst (λ (o : Outcome). (o .ended ≡ Spent) ⊎ (o .ended ≡ Stopped (refAt p ρ f₀ k .stop))) (sym (X .is)) (whole-exit w (X .traced .exit))
 
   -- ---- runs one after the other
 

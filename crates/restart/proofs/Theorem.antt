@@ -22,7 +22,7 @@ use Rattle.restart.proofs.Restoring.{outcome-some, outcome-restored, ou
 use Rattle.restart.proofs.Stopping.{stopped-same}
 use Rattle.restart.proofs.Upheld.{Upheld, upheld-first, upheld-crashed, upheld-restored, run-wrote, run-took, run-counts, upheld-run}
 use Rattle.restart.proofs.Refusing.{recovery-refused, run-refused}
-use Rattle.restart.proofs.Reaching.{chain-stops}
+use Rattle.restart.proofs.Reaching.{chain-stops, whole-spent}
 use Rattle.restart.proofs.Sets.{found-safe}
 
 -- a plan and words, and what a history begins with, as `Claim` wants them
@@ -73,6 +73,7 @@ module _ (p : List ℕ) (ρ : List ℤ) (f₀ : Frame) (plan : Plan p) (n t₀ :
           accepted = λ g words w. not-refused (record { legal = plan .legal; words = safe words w .enough; good = u .inv g .good });
           steps = u .lasting .bound;
           stops = λ g k z b x s′ c l. chain-stops p ρ f₀ plan n t₀ Words safe k z u g c l;
+          spends = λ g k z r e. whole-spent p ρ f₀ plan n t₀ Words safe k z s u g r (r .budget) e (omega arith);
         }
 
   -- THE CLAIM HOLDS OF EVERY HISTORY

@@ -25,7 +25,7 @@ use Rattle.step.specs.State.{Env, envOf, Machine}
 use Rattle.run.specs.Run.{refusalOf, Outcome, callOf}
 use Rattle.step.specs.Ready.{Legal}
 use Rattle.run.specs.declared.Ended.{Ended}
-use Rattle.run.specs.declared.Ended.the-variants.{Stopped}
+use Rattle.run.specs.declared.Ended.the-variants.{Stopped, Spent}
 use Rattle.recovery.specs.Recover as recovery
 use Rattle.recovery.specs.Recover.{Recovers}
 use Rattle.recovery.specs.declared.Recovered.the-variants as recovered
@@ -153,6 +153,9 @@ module _ (p : List ℕ) (ρ : List ℤ) (f₀ : Frame) (n t₀ : ℕ) (Words : L
     -- "so accepted runs given budget, readings and room, with no recovery between, reach that stop."
     pub stops : s .good ≡ true → (k : ℕ) → ¬ (refAt p ρ f₀ k .stop ≡ 0) → (j : ℕ) (x : Ended) (s′ : System) → Chain k s j x s′ → k + 2 * n ≤ j
         → x ≡ Stopped (refAt p ρ f₀ k .stop)
+    -- on the way there a run that is equipped for its whole budget spends it: it ends neither for want of a reading nor of a place
+    pub spends : s .good ≡ true → (k : ℕ) → ¬ (refAt p ρ f₀ k .stop ≡ 0) → (r : Request) → Suffices k s r (r .budget)
+        → let x = outcomeOf p ρ (s .machine) r .ended in (x ≡ Spent) ⊎ (x ≡ Stopped (refAt p ρ f₀ k .stop))
 
 -- ---- 01's own lists
 

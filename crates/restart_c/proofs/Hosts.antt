@@ -1,12 +1,13 @@
--- The loop of examples/host.c: call after call, each with a budget of j steps, the next j readings or those that remain, and j places (BUDGET is j there). Its calls are a
--- chain, so that where the uncut run stops, the loop reaches that stop (`loop-stops`). A plan that gives two outputs and ends, with one step and one place a call, is shown
--- (`twice-stops`).
+-- The loop of examples/host.c: call after call while the budget is spent, each with a budget of j steps, the next j readings or those that remain, and j places (BUDGET is j
+-- there). Where the uncut run stops, each call answers that the budget is spent, or that stop, and in so many calls it is the stop; so the loop ends, with the stop (`loop-ends`). A plan that
+-- gives two outputs and ends, with one step and one place a call, is shown (`twice-ends`).
 -- Assumes nothing.
 use Prim.Native.Nat.{ℕ, zero, suc, _+_, _*_, _≤_}
 use mathlib.Core.Path.{_≡_, refl, sym, _∙_, ap, subst}
 use mathlib.Core.Bool.{true}
 use mathlib.Core.List.{List, [], _∷_}
-use mathlib.Core.Logic.{inr}
+use mathlib.Core.Logic.{_⊎_, inr, ⊎-elim}
+use native.Mathlib.Nat.{add-zero, mul-le-mul-left}
 use native.Mathlib.Omega.{arith}
 use lib.IntN.{ℤ}
 use lib.ListN.{length, getD, take, drop, replicate}
@@ -19,8 +20,12 @@ use Rattle.restart.specs.Reference.{zeros, refAt}
 use Rattle.restart.specs.Claim.{Plan}
 use Rattle.restart.proofs.Hosts.{next-lent}
 use Rattle.restart.proofs.Examples.{twice, twice-plan, twice-stop}
-use Rattle.restart_c.specs.Calls.{Board, fresh, restored, ran, Lends, Calls, begins, recovers, Suffices, Chain, one, more, Found}
+use Rattle.restart_c.specs.Calls.{Board, fresh, restored, ran, Lends, Calls, begins, recovers, runs, Suffices, Chain, one, more, Found}
 use Rattle.restart_c.proofs.Theorem.{demand-3}
+
+-- as many calls as steps are enough
+most : (a j : ℕ) → 1 ≤ j → a ≤ (1 + a) * j
+most a j l = let h : (1 + a) * 1 ≤ (1 + a) * j = mul-le-mul-left (1 + a) l in omega (arith, h)
 
 module _ (p ws : List ℕ) (ρ : List ℤ) (n j : ℕ) where
   -- what the host lends for a call
@@ -30,10 +35,20 @@ module _ (p ws : List ℕ) (ρ : List ℤ) (n j : ℕ) where
     pub readings : lends .count ≡ j
     pub places : length (signedOf (l .outputs)) ≡ j
 
-  -- so many calls, what the last of them left, and the board behind it
+  -- so many calls, each behind one whose ended is 4, what the last of them left, and the board behind it
   pub data Loop (b : Board) : (calls : ℕ) → RunLeft → Board → Type 0 where
     once : (l : RunLent) → HostCall b l → Loop b 1 (runCallOf l) (ran b l (runCallOf l))
-    again : {i : ℕ} {o : RunLeft} {b′ : Board} → Loop b i o b′ → (l : RunLent) → HostCall b′ l → Loop b (suc i) (runCallOf l) (ran b′ l (runCallOf l))
+    again : {i : ℕ} {o : RunLeft} {b′ : Board} → Loop b i o b′ → getD (o .numbers) 0 0 ≡ 4 → (l : RunLent) → HostCall b′ l
+        → Loop b (suc i) (runCallOf l) (ran b′ l (runCallOf l))
+
+  -- a loop whose last call was accepted and has answered this stop
+  pub record Ends (b : Board) (stop : ℕ) : Type 0 where
+    pub calls : ℕ
+    pub left : RunLeft
+    pub board : Board
+    pub loop : Loop b calls left board
+    pub accepted : left .result ≡ 0
+    pub stops : getD (left .numbers) 0 0 ≡ stop
 
   -- each call is equipped for its steps
   equipped : (k : ℕ) {b : Board} {l : RunLent} → HostCall b l → Suffices p ws ρ n k b l j
@@ -53,14 +68,57 @@ module _ (p ws : List ℕ) (ρ : List ℤ) (n j : ℕ) where
   loop-chain k {b} (once l h) =
       let z : j ≡ 1 * j = omega arith in
       subst (λ (t : ℕ). Chain p ws ρ n k b t (runCallOf l) (ran b l (runCallOf l))) z (one l j (equipped k h))
-  loop-chain k {b} (again {i} {b′ = b′} c l h) =
+  loop-chain k {b} (again {i} {b′ = b′} c e l h) =
       let z : i * j + j ≡ suc i * j = omega arith in
       subst (λ (t : ℕ). Chain p ws ρ n k b t (runCallOf l) (ran b′ l (runCallOf l))) z (more (loop-chain k c) l j (equipped k h))
 
-  -- AND REACHES THE STOP
-  pub loop-stops : Plan p → Found p ws → {b : Board} → Calls p ws ρ n b → b .good ≡ true → (k : ℕ) → ¬ (refAt p ρ zeros k .stop ≡ 0) → {i : ℕ} {o : RunLeft} {b′ : Board}
-      → Loop b i o b′ → k + 2 * n ≤ i * j → (o .result ≡ 0) × (getD (o .numbers) 0 0 ≡ refAt p ρ zeros k .stop)
-  loop-stops plan found {b} c g k z {i} {o} {b′} h l = demand-3 p plan ws found ρ n b c .1 .stops g k z (i * j) o b′ (loop-chain k h) l
+  module _ (plan : Plan p) (found : Found p ws) where
+    -- a call goes on a list
+    goes-on : {b : Board} {l : RunLent} → Calls p ws ρ n b → b .good ≡ true → HostCall b l → Calls p ws ρ n (ran b l (runCallOf l))
+    goes-on {b} {l} c g h = runs c g l (h .lends) (demand-3 p plan ws found ρ n b c .1 .runs g l (h .lends))
+
+    module _ (k : ℕ) (end : ¬ (refAt p ρ zeros k .stop ≡ 0)) where
+      -- it is accepted, and answers 4 or the stop
+      call-answers : {b : Board} {l : RunLent} → Calls p ws ρ n b → b .good ≡ true → HostCall b l
+          → let x = getD (runCallOf l .numbers) 0 0 in (runCallOf l .result ≡ 0) × ((x ≡ 4) ⊎ (x ≡ refAt p ρ zeros k .stop))
+      call-answers {b} {l} c g h =
+          let a = demand-3 p plan ws found ρ n b c .1 in
+          (a .runs g l (h .lends), a .spends g k end l (subst (Suffices p ws ρ n k b l) (sym (h .budget)) (equipped k h)))
+
+      module _ {b : Board} (c : Calls p ws ρ n b) (g : b .good ≡ true) where
+        -- so is the last one of the loop
+        loop-on : {i : ℕ} {o : RunLeft} {b′ : Board} → Loop b i o b′
+            → Calls p ws ρ n b′ × (b′ .good ≡ true) × (o .result ≡ 0) × ((getD (o .numbers) 0 0 ≡ 4) ⊎ (getD (o .numbers) 0 0 ≡ refAt p ρ zeros k .stop))
+        loop-on (once l h) = let a = call-answers c g h in (goes-on c g h, g, a .0, a .1)
+        loop-on (again d e l h) =
+            let x = loop-on d in
+            let a = call-answers (x .0) (x .1) h in
+            (goes-on (x .0) (x .1) h, x .1, a .0, a .1)
+
+        -- in so many calls it is the stop
+        loop-stops : {i : ℕ} {o : RunLeft} {b′ : Board} → Loop b i o b′ → k + 2 * n ≤ i * j → getD (o .numbers) 0 0 ≡ refAt p ρ zeros k .stop
+        loop-stops {i} {o} {b′} loop l = demand-3 p plan ws found ρ n b c .1 .stops g k end (i * j) o b′ (loop-chain k loop) l .1
+
+        module _ (next : (b : Board) → (l : RunLent) × HostCall b l) where
+          -- while it is spent, the next call
+          loop-from : (left : ℕ) {i : ℕ} {o : RunLeft} {b′ : Board} → Loop b i o b′ → k + 2 * n ≤ (i + left) * j → Ends b (refAt p ρ zeros k .stop)
+          loop-from zero {i} {o} {b′} loop l =
+              let z : (i + 0) * j ≡ i * j = ap (λ (t : ℕ). t * j) (add-zero i) in
+              record { calls = i; left = o; board = b′; loop = loop; accepted = loop-on loop .2; stops = loop-stops loop (omega arith) }
+          loop-from (suc left) {i} {o} {b′} loop l =
+              let x = loop-on loop in
+              let z : (suc i + left) * j ≡ (i + suc left) * j = let e : suc i + left ≡ i + suc left = omega arith in ap (λ (t : ℕ). t * j) e in
+              ⊎-elim
+              (λ e. loop-from left (again loop e (next b′ .0) (next b′ .1)) (omega arith))
+              (λ e. record { calls = i; left = o; board = b′; loop = loop; accepted = x .2; stops = e })
+              (x .3)
+
+          -- THE LOOP ENDS, WITH THE STOP
+          pub loop-ends : 1 ≤ j → Ends b (refAt p ρ zeros k .stop)
+          loop-ends some = loop-from (k + 2 * n) (once (next b .0) (next b .1)) enough
+            where
+              enough : k + 2 * n ≤ (1 + (k + 2 * n)) * j
+              enough = most (k + 2 * n) j some
 
 -- ---- a plan that gives two outputs and ends
 
@@ -79,25 +137,15 @@ module _ (ws : List ℕ) (n : ℕ) where
         numbers = 0 ∷ 0 ∷ 0 ∷ 0 ∷ [];
       }
 
-  -- the board after so many calls
-  unfoldable pub called : ℕ → Board → Board
-  called zero b = b
-  called (suc i) b = ran (called i b) (hostCall (called i b)) (runCallOf (hostCall (called i b)))
-
   host-call : (b : Board) → HostCall twice ws [] n 1 b (hostCall b)
   unfolding signedOf signedFrom
   host-call b =
-      record { lends = record { plan = refl; sets = refl; chip = refl; state = refl; count = 1; readings = sym (ap (take 1) (drop-nil (machineIn (b .state) (b .chip) .regs .readings))) }; budget = refl; readings = refl; places = refl }
+      let none = sym (ap (take 1) (drop-nil (machineIn (b .state) (b .chip) .regs .readings))) in
+      let lends : Lends twice ws [] n b (hostCall b) = record { plan = refl; sets = refl; chip = refl; state = refl; count = 1; readings = none } in
+      record { lends = lends; budget = refl; readings = refl; places = refl }
 
-  looped : (i : ℕ) (b : Board) → Loop twice ws [] n 1 b (suc i) (runCallOf (hostCall (called i b))) (called (suc i) b)
-  unfolding called
-  looped zero b = once (hostCall b) (host-call b)
-  looped (suc i) b = again (looped i b) (hostCall (called (suc i) b)) (host-call (called (suc i) b))
-
-  -- after a recovery on an erased chip of n bytes the call numbered 3 + 2 n, from 1, is accepted and answers: stopped, ended
-  pub twice-stops : Found twice ws → (state left : List ℕ) → RecoverCall twice ws (replicate n 0xFF) state left 0
-      → let o = runCallOf (hostCall (called (2 + 2 * n) (restored (fresh n state) left))) in (o .result ≡ 0) × (getD (o .numbers) 0 0 ≡ ended)
-  twice-stops found state left x =
-      let b = restored (fresh n state) left in
-      let h = loop-stops twice ws [] n 1 twice-plan found (recovers (begins state) left x) refl 3 (λ e. omega (arith, twice-stop)) (looped (2 + 2 * n) b) (omega arith) in
-      (h .0, h .1 ∙ twice-stop)
+  -- after a recovery on an erased chip the loop ends: stopped, ended
+  pub twice-ends : Found twice ws → (state left : List ℕ) → RecoverCall twice ws (replicate n 0xFF) state left 0 → Ends twice ws [] n 1 (restored (fresh n state) left) ended
+  twice-ends found state left x =
+      subst (Ends twice ws [] n 1 (restored (fresh n state) left)) twice-stop
+      (loop-ends twice ws [] n 1 twice-plan found 3 (λ e. omega (arith, twice-stop)) (recovers (begins state) left x) refl (λ b. (hostCall b, host-call b)) (omega arith))

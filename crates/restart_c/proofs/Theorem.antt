@@ -4,6 +4,7 @@ use Prim.Native.Nat.{ℕ, suc, _+_, _*_, _≤_}
 use mathlib.Core.Path.{_≡_, refl, sym, _∙_, ap, subst}
 use mathlib.Core.Bool.{Bool, true, false, cond}
 use mathlib.Core.List.{List, [], _∷_, _++_}
+use mathlib.Core.Logic.{inl, inr, ⊎-elim}
 use native.Mathlib.Omega.{arith}
 use borrow.Author.Tests.{eqb-true, eq-eqb}
 use lib.Dec.{eqb}
@@ -12,6 +13,7 @@ use lib.ListN.{length, getD, take, replicate, length-replicate}
 use Rattle.step.specs.State.{envOf, Machine}
 use Rattle.run.specs.Run.{Outcome, started, callOf, answerOf}
 use Rattle.run.specs.declared.Ended.{Ended}
+use Rattle.run.specs.declared.Ended.the-variants.{Stopped, Spent}
 use Rattle.recovery.proofs.Laws.{journal-stays}
 use Rattle.layout.specs.Numbers.{signedOf}
 use Rattle.layout.specs.Layout.{stateSize, machineIn, bytesOfState}
@@ -291,6 +293,12 @@ module _ (p : List ℕ) (plan : Plan p) (ws : List ℕ) (found : Found p ws) (ρ
             let z = result l x (history c) g (sized c g) in
             (steps-most l x (history c) g z, claims (runs c g l x z) .steps);
         stops = reaches c;
+        spends =
+            λ g k z l e.
+            let kind = kind-is l (e .0) (history c) g (result l (e .0) (history c) g (sized c g)) in
+            let by : (x : Ended) → made l (e .0) .ended ≡ x → getD (runCallOf l .numbers) 0 0 ≡ getD (answerOf x .values) 0 0 =
+            λ x h. kind ∙ ap (λ (x : Ended). getD (answerOf x .values) 0 0) h in
+            ⊎-elim (λ h. inl (by Spent h)) (λ h. inr (by (Stopped _) h)) (claims c .spends g k z (request l (e .0)) (suffices l (e .0) (e .1)));
         not-damaged =
             λ state left result x e.
             bool-cases (eqb (length state) stateSize)

@@ -146,6 +146,9 @@ pub record Answers (p ws : List ℕ) (ρ : List ℤ) (n : ℕ) (b : Board) : Typ
   -- "so accepted runs given budget, readings and room, with no recovery between, reach that stop": the first of the last run's numbers, ended, is its kind
   pub stops : b .good ≡ true → (k : ℕ) → ¬ (refAt p ρ zeros k .stop ≡ 0) → (j : ℕ) (o : RunLeft) (b′ : Board) → Chain p ws ρ n k b j o b′ → k + 2 * n ≤ j
       → (o .result ≡ 0) × (getD (o .numbers) 0 0 ≡ refAt p ρ zeros k .stop)
+  -- on the way there a run that is equipped for its whole budget spends it: ended is 4, or that kind
+  pub spends : b .good ≡ true → (k : ℕ) → ¬ (refAt p ρ zeros k .stop ≡ 0) → (l : RunLent) → Suffices p ws ρ n k b l (l .budget)
+      → let x = getD (runCallOf l .numbers) 0 0 in (x ≡ 4) ⊎ (x ≡ refAt p ρ zeros k .stop)
   -- "recovery never gives 12", whatever state it is lent; one of the right length is restored, unless the chip is too long
   pub not-damaged : (state left : List ℕ) (result : ℕ) → RecoverCall p ws (b .chip) state left result → ¬ (result ≡ 12)
   pub restores : n ≤ 65536 → (state left : List ℕ) (result : ℕ) → length state ≡ stateSize → RecoverCall p ws (b .chip) state left result → result ≡ 0
