@@ -2,18 +2,15 @@
 -- Assumes nothing.
 use Prim.Native.Nat.{ℕ, _≤_, _<_}
 use mathlib.Core.Path.{_≡_, refl, sym, ap, subst}
-use mathlib.Core.Bool.{true, or-true}
+use mathlib.Core.Bool.{true}
 use mathlib.Core.List.{List, [], _∷_}
 use mathlib.Core.Logic.{_⊎_, inl, inr}
 use native.Mathlib.Omega.{arith}
 use lib.Dec.{ltb}
-use lib.ListN.{length}
 use borrow.Author.Tests.{ltb-true, ltb-false}
-use Rattle.instruction.specs.Bytes.{cellsOf}
-use Rattle.program.specs.Starts.{starts, excludes}
 use Rattle.program.specs.Check as check
 use Rattle.program.specs.Check.{Answer, checkOf}
-use Rattle.program.specs.Grounds.{Allowed, granted, denied, Counts, Ruled}
+use Rattle.program.specs.Grounds.{Allowed, granted, Counts, Ruled}
 use Rattle.program.specs.declared.Checked.{Checked}
 use Rattle.program.specs.declared.Checked.the-variants as checked
 use Rattle.program.proofs.Grounds.{ruled, one-answer, accepted-values, ruled-passes, ruled-refuses, by-check, by-words, by-own}

@@ -10,7 +10,6 @@ use native.Mathlib.Omega.{arith}
 use lib.IntN.{ℤ, pos}
 use lib.ListN.{length, take, drop, replicate, length-take, length-drop, length-replicate}
 use Rattle.cellset.proofs.Bits.{le-or-lt}
-use Rattle.run.specs.declared.Ended.{Ended}
 use Rattle.run.specs.declared.Ended.the-variants.{Stopped}
 use Rattle.restart.specs.Reference.{zeros, refAt}
 use Rattle.restart.specs.History.{System, Request, outcomeOf, ran, History}

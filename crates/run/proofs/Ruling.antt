@@ -1,15 +1,15 @@
 -- A call's answer is the one that document 01's grounds allow.
 -- Assumes nothing.
 use Prim.Native.Nat.{ℕ, _-_, _≤_, _<_}
-use mathlib.Core.Path.{_≡_, refl, sym, _∙_, subst}
+use mathlib.Core.Path.{_≡_, sym, subst}
 use mathlib.Core.Bool.{true, false}
-use mathlib.Core.List.{List, []}
+use mathlib.Core.List.{List}
 use native.Mathlib.Omega.{arith}
 use lib.Dec.{eqb, ltb}
 use lib.IntN.{ℤ}
 use lib.ListN.{length}
 use borrow.Author.Tests.{eqb-true, eqb-false, ltb-true, ltb-false}
-use Rattle.program.specs.Check.{Answer, checkOf, numberOf}
+use Rattle.program.specs.Check.{checkOf, numberOf}
 use Rattle.program.specs.Grounds.{Allowed, granted, denied}
 use Rattle.program.proofs.Grounds.{plan-passes, plan-refuses, by-check, by-words, by-own}
 use Rattle.program.proofs.Tests.{bool-cases, clash}

@@ -2,13 +2,10 @@
 -- where none does the last byte is past the end.
 -- Assumes nothing.
 use mathlib.Core.List.{[], _∷_}
-use Prim.Native.Nat.{ℕ, _+_}
+use Prim.Native.Nat.{_+_}
 use native.Mathlib.Omega.{arith}
-use lib.ListN.{drop}
 use borrow.Author.Tests.{not-true, not-false}
 use borrow.Author.Needs.{needs}
-use Rattle.journal.specs.Answer.{factsIn}
-use Rattle.journal.specs.Parts.{Meets, Fields}
 use Rattle.journal.proofs.Meeting.{decides-yes, decides-no, past-meets}
 use Rattle.journal.proofs.Fieldwise.{fields-parts, parts-fields}
 use Rattle.journal.proofs.fields.fields_begin.Statement.{statement}
