@@ -121,6 +121,15 @@ pub fn contains(a: CellSet, c: u8) -> bool
     (a.words[i] >> k) & 1 == 1
 }
 
+// The same of the words of a set that are lent, so that they are not copied for each cell asked.
+pub fn is_in(words: &[u64; 4], c: u8) -> bool
+    ensures { λ r. ⌜ r ≡ eqb (has (now (words .entry)) c) 1 ⌝ }
+{
+    let i = (c / 64) as usize;
+    let k = (c % 64) as u64;
+    (words[i] >> k) & 1 == 1
+}
+
 pub fn equal(a: CellSet, b: CellSet) -> bool
     ensures { λ r. ⌜ (r ≡ true → a .words ≡ b .words) × (a .words ≡ b .words → r ≡ true) ⌝ }
 {

@@ -57,7 +57,9 @@ pub one-reading : {F : Facts} {chip : List ℕ} {js js′ : List Checkpoint} {q 
 one-reading {F} {chip} {js} {js′} {q} {q′} r r′ =
     let k = r .erased in
     let n = r′ .erased in
-    let e = sym (append-assoc (images js) q (replicate k 0xFF)) ∙ sym (r .bytes) ∙ r′ .bytes ∙ append-assoc (images js′) q′ (replicate n 0xFF) in
+    let i = images (F .format) js in
+    let j = images (F .format) js′ in
+    let e = sym (append-assoc i q (replicate k 0xFF)) ∙ sym (r .bytes) ∙ r′ .bytes ∙ append-assoc j q′ (replicate n 0xFF) in
     let s = same-saves (q ++ replicate k 0xFF) (q′ ++ replicate n 0xFF) (r .sound) (r′ .sound) e (r .no-more) (r′ .no-more) in
     (s .0, trimmed-same q q′ k n (r .trimmed) (r′ .trimmed) (s .1))
 
@@ -96,7 +98,7 @@ shape-whole {q = q} s t = record {
 pub shape-reads : {F : Facts} {chip : List ℕ} {js : List Checkpoint} {q : List ℕ} → Shape F chip js q → Reads F chip js q
 shape-reads {F} {chip} {js} {q} s =
     let t = trim q in
-    let i = images js in
+    let i = images (F .format) js in
     let k = t .kept in
     let z : List ℕ = replicate (s .free) 0xFF in
     let j : q ++ z ≡ k ++ replicate (t .cut + s .free) 0xFF = ap (λ (l : List ℕ). l ++ z) (t .bytes) ∙ ff-join k (t .cut) (s .free) in

@@ -2,17 +2,19 @@
 -- there are. An image ends in 5A, so not in FF, and is not empty. A commit enters by its fields alone: another layout changes `commit-alike` and `commit-eq`.
 -- Assumes nothing.
 use mathlib.Core.Path.{_≡_, refl, sym, _∙_, ap, ap₂}
-use mathlib.Core.List.{List, [], _∷_, _++_, append-assoc, append-nil, head-eq-of-cons-eq, tail-eq-of-cons-eq}
-use Prim.Native.Nat.{ℕ, _^_, _<_}
+use mathlib.Core.List.{List, [], _∷_, _++_, append-assoc, append-nil, append-cancel-left, head-eq-of-cons-eq, tail-eq-of-cons-eq}
+use Prim.Native.Nat.{ℕ, _+_, _^_, _<_}
 use native.Mathlib.Omega.{arith}
-use lib.ListN.{length, take, drop, getD, length-append}
+use lib.ListN.{length, take, drop, getD, replicate, length-append, length-replicate}
 use lib.Seq.{take-at, drop-at}
 use Rattle.word.specs.Bytes.{bytesOf, numberOf}
 use Rattle.word.proofs.Bytes.{length-bytes, number-bytes}
 use Rattle.journal.specs.declared.Commit.{Commit}
-use Rattle.journal.specs.Format.{Saved, Field, Checkpoint, fieldsOf, fieldsImage, commitImage, recordsImage, image, images}
+use Rattle.journal.specs.Format.{Saved, Field, Checkpoint, fieldsOf, fieldsImage, commitImage, recordsImage, image, fillOf, filledOf, Format, padded, images}
 use Rattle.journal.specs.Reading.{Facts, Once, After, Sound, Rising, lastOf, Whole}
 use Rattle.journal.proofs.Images.{records-append, noField}
+use Rattle.journal.proofs.Paging as pages
+use Rattle.journal.proofs.Paging.{whole-none, whole-add, fill-whole}
 
 -- ---- a number
 
@@ -104,23 +106,36 @@ unique x y s t h k e =
     let commit : x .commit ≡ y .commit = d .1 in
     ((λ i. record { records = records i; commit = commit i }), d .2)
 
+-- and so do bytes that begin with what is stored of it
+pub unique-stored : {F F′ : Facts} {b b′ : Commit} (G : Format) (x y : Checkpoint) (s t : List ℕ) → Sound F b x → Sound F′ b′ y
+    → padded G x ++ s ≡ padded G y ++ t → (x ≡ y) × (s ≡ t)
+unfolding padded
+unique-stored G x y s t h k e =
+    let fill : Checkpoint → List ℕ = λ z. replicate (fillOf (G .page) (length (image z))) 0xFF in
+    let u = unique x y (fill x ++ s) (fill y ++ t) h k (sym (append-assoc (image x) (fill x) s) ∙ e ∙ append-assoc (image y) (fill y) t) in
+    (u .0, append-cancel-left (fill x) s t (u .1 ∙ ap (λ (z : Checkpoint). fill z ++ t) (sym (u .0))))
+
 -- ---- checkpoints one after the other
 
 -- bytes with a sound checkpoint at their front begin with a whole one
-front-whole : {F : Facts} {b : Commit} (x : Checkpoint) (l s t : List ℕ) → Sound F b x → s ≡ image x ++ l ++ t → Whole F b s
-front-whole x l s t h e = record { save = x; sound = h; rest = l ++ t; bytes = e ∙ append-assoc (image x) l t }
+front-whole : {F : Facts} {b : Commit} (x : Checkpoint) (l s t : List ℕ) → Sound F b x → s ≡ padded (F .format) x ++ l ++ t → Whole F b s
+front-whole {F} x l s t h e = record { save = x; sound = h; rest = l ++ t; bytes = e ∙ append-assoc (padded (F .format) x) l t }
 
 -- bytes hold one list of sound checkpoints after which no whole one comes
-pub same-saves : {F : Facts} {b : Commit} {js js′ : List Checkpoint} (s t : List ℕ) → Rising F b js → Rising F b js′ → images js ++ s ≡ images js′ ++ t
+pub same-saves : {F : Facts} {b : Commit} {js js′ : List Checkpoint} (s t : List ℕ) → Rising F b js → Rising F b js′
+    → images (F .format) js ++ s ≡ images (F .format) js′ ++ t
     → ¬ Whole F (lastOf b js) s → ¬ Whole F (lastOf b js′) t → (js ≡ js′) × (s ≡ t)
 unfolding images lastOf
 same-saves s t Rising.none Rising.none e m n = (refl, e)
-same-saves s t Rising.none (Rising.one {s = x} {js = js} h r) e m n =
-    absurd (m (front-whole x (images js) s t h e))
-same-saves s t (Rising.one {s = x} {js = js} h r) Rising.none e m n =
-    absurd (n (front-whole x (images js) t s h (sym e)))
+same-saves {F} s t Rising.none (Rising.one {s = x} {js = js} h r) e m n =
+    absurd (m (front-whole x (images (F .format) js) s t h e))
+same-saves {F} s t (Rising.one {s = x} {js = js} h r) Rising.none e m n =
+    absurd (n (front-whole x (images (F .format) js) t s h (sym e)))
 same-saves {F} s t (Rising.one {s = x} {js = js} h r) (Rising.one {s = y} {js = js′} k r′) e m n =
-    let u = unique x y (images js ++ s) (images js′ ++ t) h k (sym (append-assoc (image x) (images js) s) ∙ e ∙ append-assoc (image y) (images js′) t) in
+    let G = F .format in
+    let i = images G js in
+    let j = images G js′ in
+    let u = unique-stored G x y (i ++ s) (j ++ t) h k (sym (append-assoc (padded G x) i s) ∙ e ∙ append-assoc (padded G y) j t) in
     let rise : Rising F (x .commit) js′ = rw (u .0) r′ in
     let v = same-saves s t r rise (u .1) m (rw (u .0) n) in
     (ap₂ {A = Checkpoint} (λ j l. j ∷ l) (u .0) (v .0), v .1)
@@ -153,3 +168,21 @@ image-end s = records-end (s .records) (ends-append (0xA2 ∷ []) (fields-end (f
 -- so it is not empty
 pub image-some : (s : Checkpoint) → 0 < length (image s)
 image-some s = let e = image-end s in omega (arith, ap length (e .bytes), length-append (e .front) (0x5A ∷ []))
+
+-- ---- whole pages
+
+pub padded-length : (G : Format) (s : Checkpoint) → length (padded G s) ≡ filledOf (G .page) (length (image s))
+unfolding padded
+padded-length G s =
+    let n = fillOf (G .page) (length (image s)) in
+    let f : length (replicate {A = ℕ} n 0xFF) ≡ n = length-replicate n 0xFF in
+    omega (arith, length-append (image s) (replicate n 0xFF))
+
+pub padded-whole : (G : Format) → 0 < G .page → (s : Checkpoint) → pages.Whole (G .page) (length (padded G s))
+padded-whole G h s = rw (padded-length G s) (fill-whole (G .page) (length (image s)) h)
+
+pub images-whole : (G : Format) → 0 < G .page → (js : List Checkpoint) → pages.Whole (G .page) (length (images G js))
+unfolding images
+images-whole G h [] = whole-none (G .page)
+images-whole G h (s ∷ js) =
+    rw (length-append (padded G s) (images G js)) (whole-add (G .page) (length (padded G s)) (length (images G js)) (padded-whole G h s) (images-whole G h js))

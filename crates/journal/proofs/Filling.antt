@@ -8,15 +8,16 @@ use native.Mathlib.Nat.{add-zero}
 use native.Mathlib.Numerals.{add-one}
 use native.Mathlib.Omega.{arith}
 use lib.Dec.{eqb}
-use lib.ListN.{length, getD, set, length-append}
+use lib.ListN.{length, getD, set, replicate, length-append}
 use lib.Seq.{sets}
 use Rattle.word.specs.Bytes.{bytesOf, storeOf}
 use Rattle.word.proofs.Bytes.{length-bytes}
 use Rattle.cellset.specs.Bits.{has}
 use Rattle.cellset.specs.Members.{membersFrom, members}
 use Rattle.journal.specs.declared.Commit.{Commit}
-use Rattle.journal.specs.Format.{Saved, recordImage, fieldsImage, commitImage, recordsImage, image}
+use Rattle.journal.specs.Format.{Saved, fillOf, formatOf, recordImage, fieldsImage, commitImage, recordsImage, image, padded}
 use Rattle.journal.specs.Writing.{recordsOf, checkpointOf}
+use Rattle.journal.proofs.Decoding.{padded-length}
 use Rattle.journal.proofs.Images.{record-length, commit-length}
 
 -- to store bytes, and others from where they end, is to store both
@@ -57,6 +58,23 @@ commit-stored l at c {t} {u} {v} {w} d e f g =
     ∙ store-then 2 (c .exclude) t (at + 3) (at + 5) readings e (omega arith)
     ∙ store-then 2 (c .place) (set l at 0xA2) (at + 1) (at + 3) exclude d (omega arith)
     ∙ ap (λ (k : ℕ). sets (set l at 0xA2) k place) (add-one at)
+
+-- ---- the filling
+
+-- `fill_into`: what is still to be stored leaves what all of it leaves
+pub record Erasing (from to : ℕ) (before now : List ℕ) (k : ℕ) : Type 0 where
+  pub rest : sets now k (replicate (to - k) 0xFF) ≡ sets before from (replicate (to - from) 0xFF)
+
+pub erasing-first : (from to : ℕ) (l : List ℕ) → Erasing from to l l from
+erasing-first from to l = record { rest = refl }
+
+pub erasing-turn : {from to : ℕ} {before now : List ℕ} {k : ℕ} → Erasing from to before now k → k < to → Erasing from to before (set now k 0xFF) (k + 1)
+erasing-turn {to = to} {k = k} e h =
+    let n : to - k ≡ suc (to - (k + 1)) = omega arith in
+    record { rest = rw (add-one k) (rw (n, add-one k) at (e .rest)) }
+
+pub erasing-done : {from to : ℕ} {before now : List ℕ} {k : ℕ} → Erasing from to before now k → to ≤ k → now ≡ sets before from (replicate (to - from) 0xFF)
+erasing-done {to = to} {k = k} e h = let z : to - k ≡ 0 = omega arith in rw z at (e .rest)
 
 -- ---- the checkpoint
 
@@ -140,9 +158,19 @@ module _ {s values : List ℕ} {c : Commit} {before now : List ℕ} {at cell : �
         f .whole
         ∙ ap (λ (cells : List ℕ). f .text ++ restOf values c cells) (cells-none s cell (256 - cell) (λ j a b. none j (omega arith) (omega (arith, f .below))))
 
-    pub filling-done : {t : List ℕ} → t ≡ sets now at (commitImage c)
-        → (at + 14 ≡ length (image (checkpointOf s values c))) × (t ≡ sets before 0 (image (checkpointOf s values c)))
-    filling-done e = (
-      omega (arith, f .offset, ap length filling-end, length-append (f .text) (commitImage c), commit-length c),
-      filling-sets (commitImage c) e ∙ ap (sets before 0) (sym filling-end),
-    )
+    -- and then the filling
+    pub filling-done : (page : ℕ) {t u : List ℕ} {k : ℕ} → t ≡ sets now at (commitImage c) → k ≡ fillOf page (at + 14)
+        → u ≡ sets t (at + 14) (replicate (at + 14 + k - (at + 14)) 0xFF)
+        → (at + 14 + k ≡ length (padded (formatOf page) (checkpointOf s values c))) × (u ≡ sets before 0 (padded (formatOf page) (checkpointOf s values c)))
+    unfolding padded
+    filling-done page {t} {k = k} e g d =
+        let i = image (checkpointOf s values c) in
+        let n : at + 14 ≡ length i = omega (arith, f .offset, ap length filling-end, length-append (f .text) (commitImage c), commit-length c) in
+        let z : k ≡ fillOf page (length i) = g ∙ ap (fillOf page) n in
+        let m : at + 14 + k - (at + 14) ≡ fillOf page (length i) = omega arith in (
+          omega (arith, padded-length (formatOf page) (checkpointOf s values c)),
+          d
+              ∙ ap (λ (x : ℕ). sets t (at + 14) (replicate x 0xFF)) m
+              ∙ ap (λ (x : List ℕ). sets x (at + 14) (replicate (fillOf page (length i)) 0xFF)) (filling-sets (commitImage c) e ∙ ap (sets before 0) (sym filling-end))
+              ∙ sets-then before 0 (at + 14) i (replicate (fillOf page (length i)) 0xFF) (omega arith),
+        )

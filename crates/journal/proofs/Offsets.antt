@@ -16,6 +16,7 @@ use Rattle.program.specs.Places.{entryAt, readPlace}
 use Rattle.program.specs.declared.places.Place.{Place}
 use Rattle.program.proofs.Tests.{clash}
 use Rattle.journal.specs.Reading.{Facts}
+use Rattle.journal.specs.Format.{Format, formatOf}
 use Rattle.journal.specs.Answer.{factsIn}
 use Rattle.journal.specs.Parts.{Decides, offsetIn, Some, Number}
 use Rattle.journal.proofs.Meeting.{decides, decides-same, below-next, past-meets, first-meets, meets-first}
@@ -29,20 +30,20 @@ offset-first F true t h e = rw e
 offset-first F false t h e = clash false h refl
 
 -- another is what the table says
-module _ (n : ℕ) (table : List ℕ) (t : ℕ) (q : Place) (e : q ≡ readPlace (entryAt table t)) where
-  pub offset-exclude : (ex : Bool) → ex ≡ true → ¬ (t ≡ 0) → ltb 0 (q .exclude) ≡ offsetIn (factsIn n table) ex t
+module _ (G : Format) (n : ℕ) (table : List ℕ) (t : ℕ) (q : Place) (e : q ≡ readPlace (entryAt table t)) where
+  pub offset-exclude : (ex : Bool) → ex ≡ true → ¬ (t ≡ 0) → ltb 0 (q .exclude) ≡ offsetIn (factsIn G n table) ex t
   offset-exclude true h d = rw (e, ne-eqb t 0 d)
   offset-exclude false h d = clash false h refl
 
-  pub offset-place : (ex : Bool) → ex ≡ false → q .after ≡ offsetIn (factsIn n table) ex t
+  pub offset-place : (ex : Bool) → ex ≡ false → q .after ≡ offsetIn (factsIn G n table) ex t
   offset-place true h = clash true refl h
   offset-place false h = rw e
 
 -- past the table there is none
-offset-past : (n : ℕ) (table : List ℕ) (ex : Bool) (t : ℕ) → 2048 ≤ t → offsetIn (factsIn n table) ex t ≡ false
+offset-past : (G : Format) (n : ℕ) (table : List ℕ) (ex : Bool) (t : ℕ) → 2048 ≤ t → offsetIn (factsIn G n table) ex t ≡ false
 unfolding entryAt readPlace
-offset-past n table true t h = rw (le-ltb t 2048 h, ne-eqb t 0 (λ e. omega arith))
-offset-past n table false t h = rw (le-ltb t 2048 h)
+offset-past G n table true t h = rw (le-ltb t 2048 h, ne-eqb t 0 (λ e. omega arith))
+offset-past G n table false t h = rw (le-ltb t 2048 h)
 
 -- ---- offset after offset
 
@@ -62,8 +63,8 @@ searched-turn is low step t s e = record {
   none = below-next {P = λ k. is (low + step * k) ≡ false} (s .turns) (s .none) (rw (← s .at) e);
 }
 
-module _ (n : ℕ) (table : List ℕ) (ex : Bool) (low step t : ℕ) (s : Searched (offsetIn (factsIn 0 table) ex) low step t) where
-  pub searched-found : low < step → t < 2048 → offsetIn (factsIn 0 table) ex t ≡ true → Some (factsIn n table) ex low step
+module _ (G : Format) (n : ℕ) (table : List ℕ) (ex : Bool) (low step t : ℕ) (s : Searched (offsetIn (factsIn (formatOf 1) 0 table) ex) low step t) where
+  pub searched-found : low < step → t < 2048 → offsetIn (factsIn (formatOf 1) 0 table) ex t ≡ true → Some (factsIn G n table) ex low step
   searched-found l h e = record {
     offset = t;
     is = e;
@@ -71,13 +72,13 @@ module _ (n : ℕ) (table : List ℕ) (ex : Bool) (low step t : ℕ) (s : Search
     low-is = ap (λ (x : ℕ). x % step) (s .at) ∙ add-mul-mod-self-left low step (s .turns) ∙ mod-eq-of-lt l;
   }
 
-  pub searched-done : 2048 ≤ t → ¬ Some (factsIn n table) ex low step
+  pub searched-done : 2048 ≤ t → ¬ Some (factsIn G n table) ex low step
   searched-done h o =
       let q = o .offset / step in
       let e : low + step * q ≡ o .offset = ap (λ (x : ℕ). x + step * q) (sym (o .low-is)) ∙ mod-add-div (o .offset) step in
-      clash (offsetIn (factsIn 0 table) ex (o .offset)) (o .is)
+      clash (offsetIn (factsIn (formatOf 1) 0 table) ex (o .offset)) (o .is)
       (⊎-elim
-      (λ (l : s .turns ≤ q). offset-past 0 table ex (o .offset) (omega (arith, s .at, mul-le-mul-left step l)))
+      (λ (l : s .turns ≤ q). offset-past (formatOf 1) 0 table ex (o .offset) (omega (arith, s .at, mul-le-mul-left step l)))
       (λ (l : q < s .turns). rw e at (s .none q l))
       (le-or-lt (s .turns) q))
 

@@ -8,10 +8,11 @@ use native.Mathlib.Omega.{arith}
 use lib.ListN.{length, drop, length-append}
 use Rattle.journal.specs.declared.Commit.{Commit}
 use Rattle.journal.specs.Format.{Saved, Checkpoint, commitImage, recordsImage, image}
-use Rattle.journal.specs.Reading.{Facts, Once, Sound, Begins, Whole}
+use Rattle.journal.specs.Reading.{Facts, Once, Sound, Begins}
 use Rattle.journal.specs.Parts.{Meets, Goes, Ends, commitAt}
 use Rattle.journal.proofs.Images.{records-append, records-join}
 use Rattle.journal.proofs.Decoding.{peel}
+use Rattle.journal.proofs.Torn.{Front}
 use Rattle.journal.proofs.Meeting.{meets-cut, whole-meets, cut-meets}
 
 -- a sound checkpoint whose first records are rs goes on behind them with the others
@@ -21,7 +22,7 @@ goes-on {F} s more h e k =
     record { more = more; commit = s .commit; once = subst (λ (x : List Saved). Once (F .cells) x) e (h .once); after = h .after; meets = k }
 
 -- a whole checkpoint goes on behind the records, and what follows them is not shorter
-whole-goes : {F : Facts} {b : Commit} {rs : List Saved} {q m : List ℕ} → Once (F .cells) rs → q ≡ recordsImage rs m → Whole F b q
+whole-goes : {F : Facts} {b : Commit} {rs : List Saved} {q m : List ℕ} → Once (F .cells) rs → q ≡ recordsImage rs m → Front F b q
     → (g : Goes F b rs m) × (length (recordsImage (g .more) (commitImage (g .commit))) ≤ length m)
 unfolding image
 whole-goes {F} {b} {rs} {q} {m} o e w =
@@ -61,12 +62,12 @@ goes-begins {F} {b} {rs} {q} {m} e g h =
 
 -- a cut checkpoint begins one and is not whole
 pub cut-of : {F : Facts} {b : Commit} {rs : List Saved} {q m : List ℕ} → Once (F .cells) rs → q ≡ recordsImage rs m
-    → Goes F b rs m × ((g : Goes F b rs m) → length m < length (recordsImage (g .more) (commitImage (g .commit)))) → Begins F b q × ¬ Whole F b q
+    → Goes F b rs m × ((g : Goes F b rs m) → length m < length (recordsImage (g .more) (commitImage (g .commit)))) → Begins F b q × ¬ Front F b q
 cut-of o e c = (goes-begins e (c .0) (c .1 (c .0)), λ w. let g = whole-goes o e w in omega (arith, g .1, c .1 (g .0)))
 
 -- what does not go on neither begins one nor is whole
 pub bad-of : {F : Facts} {b : Commit} {rs : List Saved} {q m : List ℕ} → Once (F .cells) rs → q ≡ recordsImage rs m → ¬ Goes F b rs m
-    → ¬ Begins F b q × ¬ Whole F b q
+    → ¬ Begins F b q × ¬ Front F b q
 bad-of o e n = (λ g. n (begins-goes o e g), λ w. n (whole-goes o e w .0))
 
 -- records and a sound commit behind them are a checkpoint

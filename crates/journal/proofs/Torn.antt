@@ -13,8 +13,8 @@ use borrow.Author.Tests.{eqb-true, eqb-false}
 use Rattle.cellset.proofs.Bits.{le-or-lt}
 use Rattle.program.proofs.Tests.{bool-cases}
 use Rattle.journal.specs.declared.Commit.{Commit}
-use Rattle.journal.specs.Format.{Checkpoint, image}
-use Rattle.journal.specs.Reading.{Facts, Begins, Whole}
+use Rattle.journal.specs.Format.{Checkpoint, image, fillOf, padded}
+use Rattle.journal.specs.Reading.{Facts, Sound, Begins, Whole}
 use Rattle.journal.proofs.Decoding.{unique, image-end, image-some}
 pub use Rattle.journal.specs.Shape.{Part, Cut}
 
@@ -62,16 +62,33 @@ reaches s q t m e =
     absurd (no-end m (r .0) t (r .2)))
     (le-or-lt (length (image s)) (length q))
 
--- a whole checkpoint at the front of bytes and FF bytes is one of the bytes alone
-pub whole-within : {F : Facts} {b : Commit} (q : List ℕ) (m : ℕ) → Whole F b (q ++ replicate m 0xFF) → Whole F b q
-whole-within q m w =
+-- l begins with the image of a checkpoint that is sound after b, whether its page is filled or not
+pub record Front (F : Facts) (b : Commit) (l : List ℕ) : Type 0 where
+  pub save : Checkpoint
+  pub sound : Sound F b save
+  pub rest : List ℕ
+  pub bytes : l ≡ image save ++ rest
+
+pub whole-front : {F : Facts} {b : Commit} {l : List ℕ} → Whole F b l → Front F b l
+unfolding padded
+whole-front {F} w =
+    let fill : List ℕ = replicate (fillOf (F .format .page) (length (image (w .save)))) 0xFF in
+    record { save = w .save; sound = w .sound; rest = fill ++ w .rest; bytes = w .bytes ∙ append-assoc (image (w .save)) fill (w .rest) }
+
+-- the image at the front of bytes and FF bytes is one of the bytes alone
+pub front-within : {F : Facts} {b : Commit} (q : List ℕ) (m : ℕ) → Front F b (q ++ replicate m 0xFF) → Front F b q
+front-within q m w =
     let n = nested (image (w .save)) q (w .rest) (replicate m 0xFF) (sym (w .bytes)) (reaches (w .save) q (w .rest) m (w .bytes)) in
     record { save = w .save; sound = w .sound; rest = n .0; bytes = n .1 }
+
+-- where no image stands at the front, no whole checkpoint does, whatever FF bytes follow
+pub no-front : {F : Facts} {b : Commit} (q : List ℕ) → ¬ Front F b q → (m : ℕ) → ¬ Whole F b (q ++ replicate m 0xFF)
+no-front q n m w = n (front-within q m (whole-front w))
 
 -- a part and FF bytes after it begin with no whole checkpoint, of this program or another
 pub never-whole : {F F′ : Facts} {b b′ : Commit} (q : List ℕ) (m : ℕ) → Part F b q → ¬ Whole F′ b′ (q ++ replicate m 0xFF)
 never-whole q m p w =
-    let v = whole-within q m w in
+    let v = front-within q m (whole-front w) in
     let i = image (v .save) in
     let e = ap (λ (l : List ℕ). l ++ p .more) (v .bytes) ∙ append-assoc i (v .rest) (p .more) in
     let g : image (p .save) ++ [] ≡ i ++ (v .rest ++ p .more) = append-nil (image (p .save)) ∙ p .bytes ∙ e in
@@ -81,7 +98,7 @@ never-whole q m p w =
 
 -- nor do FF bytes alone
 pub erased-not-whole : {F : Facts} {b : Commit} (m : ℕ) → ¬ Whole F b (replicate m 0xFF)
-erased-not-whole m w = omega (arith, reaches (w .save) [] (w .rest) m (w .bytes), image-some (w .save))
+erased-not-whole m w = let f = whole-front w in omega (arith, reaches (f .save) [] (f .rest) m (f .bytes), image-some (f .save))
 
 -- ---- without trailing FF bytes
 

@@ -1,6 +1,6 @@
 -- What the parts of the scan decide. A journal is read without its trailing FF bytes, so that one test serves a checkpoint that is whole and one that is cut.
 -- Assumes nothing.
-use Prim.Native.Nat.{ℕ, _+_, _*_, _%_, _^_, _≤_, _<_}
+use Prim.Native.Nat.{ℕ, _+_, _-_, _*_, _%_, _^_, _≤_, _<_}
 use mathlib.Core.Path.{_≡_}
 use mathlib.Core.Bool.{Bool, true, false, cond, _||_}
 use mathlib.Core.List.{List, [], _∷_, _++_}
@@ -12,7 +12,7 @@ use Rattle.journal.specs.declared.Scanned.{Scanned}
 use Rattle.journal.specs.declared.Scanned.the-variants as scanned
 use Rattle.journal.specs.declared.tail.Tail.{Tail}
 use Rattle.journal.specs.declared.tail.Tail.the-variants.{Whole, Cut, Bad}
-use Rattle.journal.specs.Format.{Saved, Checkpoint, fieldsOf, fieldsImage, commitImage, recordsImage, images}
+use Rattle.journal.specs.Format.{Saved, Checkpoint, fieldsOf, fieldsImage, commitImage, recordsImage, filledOf, images}
 use Rattle.journal.specs.Answer.{Blank}
 use Rattle.journal.specs.Reading
 use Rattle.journal.specs.Reading.{Facts, first, Once, After, Rising, lastOf, Torn, savedIn, savedValue}
@@ -136,31 +136,38 @@ TailIs F b rs l i Bad = ¬ Goes F b rs (drop i l)
 
 -- ---- the whole journal
 
--- l is the sound whole checkpoints js, as many as there are, and a remainder
-pub record Stops (F : Facts) (l : List ℕ) (js : List Checkpoint) (rest : List ℕ) : Type 0 where
+-- the bytes of l from `from` to `to` are FF, as far as there are any
+pub record Erased (l : List ℕ) (from to : ℕ) : Type 0 where
+  pub are : (k : ℕ) → from ≤ k → k < to → byteAt l k ≡ 0xFF
+
+-- l, with FF bytes behind it up to `at`, is the sound whole checkpoints js, as many as there are, and a remainder
+pub record Stops (F : Facts) (l : List ℕ) (at : ℕ) (js : List Checkpoint) (rest : List ℕ) : Type 0 where
   pub rising : Rising F first js
-  pub bytes : l ≡ images js ++ rest
-  pub no-more : ¬ Reading.Whole F (lastOf first js) rest
+  pub at-is : at ≡ length (images (F .format) js)
+  pub bytes : l ++ replicate (at - length l) 0xFF ≡ images (F .format) js ++ rest
+  pub most : at < length l + F .format .page
+  pub rest-is : rest ≡ drop at l
+  pub no-more : (m : ℕ) → ¬ Reading.Whole F (lastOf first js) (rest ++ replicate m 0xFF)
 
 pub record Refuses (F : Facts) (l : List ℕ) : Type 0 where
+  pub at : ℕ
   pub saves : List Checkpoint
   pub rest : List ℕ
-  pub stops : Stops F l saves rest
+  pub stops : Stops F l at saves rest
   pub refused : ¬ Torn F (lastOf first saves) rest
 
 pub record Accepts (F : Facts) (l : List ℕ) (end torn : ℕ) (last : Commit) (values : List ℕ) : Type 0 where
   pub saves : List Checkpoint
   pub rest : List ℕ
-  pub stops : Stops F l saves rest
+  pub stops : Stops F l end saves rest
   pub accepted : Torn F (lastOf first saves) rest
-  pub end-is : end ≡ length (images saves)
-  pub torn-is : torn ≡ length rest
+  pub torn-is : torn ≡ filledOf (F .format .page) (length rest)
   pub last-is : last ≡ lastOf first saves
   pub cells : length values ≡ 256
   pub values-are : (c : ℕ) → c < 256 → getD values c 0 ≡ savedValue c saves 0
 
--- what is found in a journal without its trailing FF bytes, which is not too long
+-- what is found in a journal without its trailing FF bytes, whose length a chip may have
 abbrev pub WalkIs : Facts → List ℕ → Scanned → List ℕ → Type 0
-WalkIs F l scanned.TooLong values = ⊥
+WalkIs F l scanned.BadLength values = ⊥
 WalkIs F l scanned.Damaged values = Refuses F l × Blank values
 WalkIs F l (scanned.Found end torn last) values = Accepts F l end torn last values

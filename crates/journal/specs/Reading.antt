@@ -10,16 +10,17 @@ use lib.Dec.{eqb}
 use Rattle.instruction.specs.Bytes.{cellsOf}
 use Rattle.program.specs.Places.{afterCheckpoint, isExclude}
 use Rattle.journal.specs.declared.Commit.{Commit}
-use Rattle.journal.specs.Format.{Saved, Checkpoint, image, images}
+use Rattle.journal.specs.Format.{Format, Saved, Checkpoint, image, padded, images}
 
--- what of a program decides whether a checkpoint is sound: its cells, the offsets after a CHECKPOINT and those of an EXCLUDE
+-- what decides whether a checkpoint is sound: of a program its cells, the offsets after a CHECKPOINT and those of an EXCLUDE; and how the chip is written
 pub record Facts : Type 0 where
   pub cells : ℕ
   pub place : ℕ → Bool
   pub exclude : ℕ → Bool
+  pub format : Format
 
-abbrev pub factsOf : List ℕ → Facts
-factsOf p = record { cells = cellsOf p; place = afterCheckpoint p; exclude = isExclude p }
+abbrev pub factsOf : Format → List ℕ → Facts
+factsOf G p = record { cells = cellsOf p; place = afterCheckpoint p; exclude = isExclude p; format = G }
 
 -- before any checkpoint: "offset 1 and zeros"
 abbrev pub first : Commit
@@ -68,19 +69,19 @@ pub record Begins (F : Facts) (b : Commit) (q : List ℕ) : Type 0 where
   pub rest : List ℕ
   pub bytes : image save ≡ q ++ rest
 
--- l begins with a whole checkpoint that is sound after b
+-- l begins with a whole checkpoint that is sound after b, the last page filled
 pub record Whole (F : Facts) (b : Commit) (l : List ℕ) : Type 0 where
   pub save : Checkpoint
   pub sound : Sound F b save
   pub rest : List ℕ
-  pub bytes : l ≡ image save ++ rest
+  pub bytes : l ≡ padded (F .format) save ++ rest
 
 -- the journal is the sound whole checkpoints js, as many as there are, a remainder q, and FF: "Of what follows the last sound whole save, trailing `FF`
 -- bytes are dropped"
 pub record Reading (F : Facts) (chip : List ℕ) (js : List Checkpoint) (q : List ℕ) : Type 0 where
   pub erased : ℕ
   pub sound : Rising F first js
-  pub bytes : chip ≡ images js ++ q ++ replicate erased 0xFF
+  pub bytes : chip ≡ images (F .format) js ++ q ++ replicate erased 0xFF
   pub no-more : ¬ Whole F (lastOf first js) (q ++ replicate erased 0xFF)
   pub trimmed : (l : List ℕ) → ¬ (q ≡ l ++ (0xFF ∷ []))
 

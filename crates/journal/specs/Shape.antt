@@ -27,4 +27,4 @@ pub record Shape (F : Facts) (chip : List ℕ) (js : List Checkpoint) (q : List 
   pub free : ℕ
   pub rising : Rising F first js
   pub cut : Cut F (lastOf first js) q
-  pub bytes : chip ≡ images js ++ q ++ replicate free 0xFF
+  pub bytes : chip ≡ images (F .format) js ++ q ++ replicate free 0xFF

@@ -11,6 +11,7 @@ ghost use mathlib.Core.Path.{_≡_};
 ghost use Prim.Native.Nat.{ℕ, _+_, _≤_, _<_};
 ghost use mathlib.Core.Bool.{true};
 ghost use lib.ListN.{length, drop};
+ghost use Rattle.journal.specs.Format.{Format};
 ghost use Rattle.journal.specs.Answer.{factsIn};
 ghost use Rattle.journal.specs.Parts.{Decides, byteAt, offsetIn, Some, Number, Fields, commitAt};
 
@@ -22,7 +23,7 @@ pub fn byte_at(l: &[u8], i: usize) -> u8
 
 // Whether a commit may name the offset t, as its last EXCLUDE or as its place.
 fn offset_is(table: &[u8; 2048], excludes: bool, t: usize) -> bool
-    ensures { λ r. ⌜ ((n : ℕ) → r ≡ offsetIn (factsIn n (now (table .entry))) excludes t) ⌝ }
+    ensures { λ r. ⌜ ((G : Format) (n : ℕ) → r ≡ offsetIn (factsIn G n (now (table .entry))) excludes t) ⌝ }
 {
     let place = place_at(table, t);
     if excludes {
@@ -37,7 +38,7 @@ fn offset_is(table: &[u8; 2048], excludes: bool, t: usize) -> bool
 // Whether there is such an offset among low, low + step, low + 2 × step and so on.
 pub fn some_offset(table: &[u8; 2048], excludes: bool, low: usize, step: usize) -> bool
     requires { ⌜ (low < step) × (step ≤ 256) ⌝ }
-    ensures { λ r. ⌜ ((n : ℕ) → Decides (Some (factsIn n (now (table .entry))) excludes low step) r) ⌝ }
+    ensures { λ r. ⌜ ((G : Format) (n : ℕ) → Decides (Some (factsIn G n (now (table .entry))) excludes low step) r) ⌝ }
 {
     let mut t = low;
     while t < 2048 {
@@ -52,7 +53,7 @@ pub fn some_offset(table: &[u8; 2048], excludes: bool, low: usize, step: usize) 
 // Whether the bytes at i begin such an offset.
 fn offset_begins(l: &[u8], i: usize, table: &[u8; 2048], excludes: bool) -> bool
     requires { ⌜ i ≤ 100000 ⌝ }
-    ensures { λ r. ⌜ ((n : ℕ) → Decides (Number (λ t. offsetIn (factsIn n (now (table .entry))) excludes t ≡ true) 2 (drop i (now (l .entry)))) r) ⌝ }
+    ensures { λ r. ⌜ ((G : Format) (n : ℕ) → Decides (Number (λ t. offsetIn (factsIn G n (now (table .entry))) excludes t ≡ true) 2 (drop i (now (l .entry)))) r) ⌝ }
 {
     if l.len() <= i {
         return some_offset(table, excludes, 0, 1);
@@ -81,7 +82,7 @@ fn count_begins(l: &[u8], i: usize, least: u32) -> bool
 // Whether the whole offset at i is such an offset.
 fn offset_whole(l: &[u8], i: usize, table: &[u8; 2048], excludes: bool) -> bool
     requires { ⌜ (i ≤ 100000) × (i + 2 ≤ length (now l)) ⌝ }
-    ensures { λ r. ⌜ ((n : ℕ) → Decides (Number (λ t. offsetIn (factsIn n (now (table .entry))) excludes t ≡ true) 2 (drop i (now (l .entry)))) r) ⌝ }
+    ensures { λ r. ⌜ ((G : Format) (n : ℕ) → Decides (Number (λ t. offsetIn (factsIn G n (now (table .entry))) excludes t ≡ true) 2 (drop i (now (l .entry)))) r) ⌝ }
 {
     offset_is(table, excludes, load16(l, i) as usize)
 }
@@ -97,7 +98,7 @@ fn count_whole(l: &[u8], i: usize, least: u32) -> bool
 // The same as `fields_begin` where all the bytes are there, so that no field asks whether it is cut.
 fn fields_whole(l: &[u8], i: usize, table: &[u8; 2048], last: Commit) -> bool
     requires { ⌜ (i ≤ 90000) × (i + 13 ≤ length (now l)) ⌝ }
-    ensures { λ r. ⌜ ((n : ℕ) → Decides (Fields (factsIn n (now (table .entry))) last (drop i (now (l .entry)))) r) ⌝ }
+    ensures { λ r. ⌜ ((G : Format) (n : ℕ) → Decides (Fields (factsIn G n (now (table .entry))) last (drop i (now (l .entry)))) r) ⌝ }
 {
     if !offset_whole(l, i, table, false) {
         return false;
@@ -117,7 +118,7 @@ fn fields_whole(l: &[u8], i: usize, table: &[u8; 2048], last: Commit) -> bool
 // Whether the bytes at i begin the fields and the last byte of a commit that is sound after `last`.
 pub fn fields_begin(l: &[u8], i: usize, table: &[u8; 2048], last: Commit) -> bool
     requires { ⌜ i ≤ 90000 ⌝ }
-    ensures { λ r. ⌜ ((n : ℕ) → Decides (Fields (factsIn n (now (table .entry))) last (drop i (now (l .entry)))) r) ⌝ }
+    ensures { λ r. ⌜ ((G : Format) (n : ℕ) → Decides (Fields (factsIn G n (now (table .entry))) last (drop i (now (l .entry)))) r) ⌝ }
 {
     if i + 13 <= l.len() {
         return fields_whole(l, i, table, last);

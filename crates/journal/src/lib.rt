@@ -6,18 +6,23 @@
 // erasing in order leave a journal that reads back as the checkpoints whose final byte was stored
 // (proofs/Decoding.antt, Torn.antt, Back.antt, Storing.antt).
 mod fields;
+pub mod pages;
 mod records;
 mod tail;
 pub mod writing;
 
 use fields::commit_at;
+use pages::fill;
+use pages::is_erased;
+use pages::is_length;
 use records::records_end;
 use records::restore;
 use tail::Tail;
 use tail::tail_at;
 ghost use mathlib.Core.Path.{_≡_};
-ghost use Prim.Native.Nat.{_+_, _≤_};
+ghost use Prim.Native.Nat.{_+_, _≤_, _<_};
 ghost use lib.ListN.{length};
+ghost use Rattle.journal.specs.Format.{formatOf};
 ghost use Rattle.journal.specs.Answer.{factsIn, Blank, ScanIs};
 ghost use Rattle.journal.specs.Parts.{Content, WalkIs};
 
@@ -42,10 +47,10 @@ pub struct Commit {
     pub outputs: u32,
 }
 
-// What a journal reads as: longer than a chip can be; damaged; or where its whole checkpoints end, how many
-// torn bytes follow, and the last commit, or offset 1 and zeros if there is none.
+// What a journal reads as: of a length that no chip has; damaged; or where its whole checkpoints end, how
+// many bytes are to be erased behind them, and the last commit, or offset 1 and zeros if there is none.
 pub enum Scanned {
-    TooLong,
+    BadLength,
     Damaged,
     Found {
         end: usize,
@@ -95,9 +100,9 @@ fn found(end: usize, torn: usize, last: Commit, values: [u32; 256]) -> Contents
 
 // Takes up checkpoint after checkpoint. Each has a stamp of its own, so that the cells of one are told
 // from those of the one before without clearing a table.
-fn walk(l: &[u8], n: usize, table: &[u8; 2048]) -> Contents
-    requires { ⌜ (length (now l) ≤ 65536) × (n ≤ 256) ⌝ }
-    ensures { λ r. ⌜ WalkIs (factsIn n (now (table .entry))) (now (l .entry)) (r .answer) (r .values) ⌝ }
+fn walk(l: &[u8], n: usize, table: &[u8; 2048], page: usize) -> Contents
+    requires { ⌜ (length (now l) ≤ 65536) × (n ≤ 256) × (0 < page) × (page ≤ 16) ⌝ }
+    ensures { λ r. ⌜ WalkIs (factsIn (formatOf page) n (now (table .entry))) (now (l .entry)) (r .answer) (r .values) ⌝ }
 {
     let mut seen = [0u32; 256];
     let mut values = [0u32; 256];
@@ -114,10 +119,16 @@ fn walk(l: &[u8], n: usize, table: &[u8; 2048]) -> Contents
             Tail::Whole => {
                 restore(l, at, i, &mut values);
                 last = commit_at(l, i + 1);
-                at = i + 14;
+                let end = i + 14;
+                let next = end + fill(end - at, page);
+                if !is_erased(l, end, next) {
+                    return refused(Scanned::Damaged);
+                }
+                at = next;
             }
             Tail::Cut => {
-                return found(at, l.len() - at, last, values);
+                let rest = l.len() - at;
+                return found(at, rest + fill(rest, page), last, values);
             }
             Tail::Bad => {
                 return refused(Scanned::Damaged);
@@ -127,14 +138,14 @@ fn walk(l: &[u8], n: usize, table: &[u8; 2048]) -> Contents
     found(at, 0, last, values)
 }
 
-// Reads a journal of any length, by a program's byte 0, which is the number of its highest cell, and its
-// table of places.
-pub fn scan(journal: &[u8], highest: u8, table: &[u8; 2048]) -> Contents
-    ensures { λ r. ⌜ ScanIs (factsIn (highest + 1) (now (table .entry))) (now (journal .entry)) (r .answer) (r .values) ⌝ }
+// Reads a journal of any length, by a program's byte 0, which is the number of its highest cell, its table
+// of places, and how many bytes a page of the chip has.
+pub fn scan(journal: &[u8], highest: u8, table: &[u8; 2048], page: usize) -> Contents
+    ensures { λ r. ⌜ ScanIs (factsIn (formatOf page) (highest + 1) (now (table .entry))) (now (journal .entry)) (r .answer) (r .values) ⌝ }
 {
-    if 65536 < journal.len() {
-        return refused(Scanned::TooLong);
+    if !is_length(journal.len(), page) {
+        return refused(Scanned::BadLength);
     }
     let t = content(journal);
-    walk(&journal[..t], highest as usize + 1, table)
+    walk(&journal[..t], highest as usize + 1, table, page)
 }

@@ -8,7 +8,7 @@ use crate::records::cell_begins;
 ghost use Prim.Native.Nat.{_+_, _≤_};
 ghost use mathlib.Core.List.{List};
 ghost use lib.ListN.{length};
-ghost use Rattle.journal.specs.Format.{Saved};
+ghost use Rattle.journal.specs.Format.{Format, Saved};
 ghost use Rattle.journal.specs.Reading.{Once};
 ghost use Rattle.journal.specs.Answer.{factsIn};
 ghost use Rattle.journal.specs.Parts.{Stamped, NoRecord, TailIs};
@@ -31,7 +31,7 @@ pub fn tail_at(
     last: Commit,
 ) -> Tail
     requires { ⌜ (i ≤ length (now l)) × (length (now l) ≤ 65536) × (n ≤ 256) × NoRecord n stamp (now seen) (now l) i ⌝ }
-    ensures { λ r. ⌜ ((rs : List Saved) → Once n rs → Stamped rs stamp (now (seen .entry)) → TailIs (factsIn n (now (table .entry))) last rs (now (l .entry)) i r) ⌝ }
+    ensures { λ r. ⌜ ((G : Format) (rs : List Saved) → Once n rs → Stamped rs stamp (now (seen .entry)) → TailIs (factsIn G n (now (table .entry))) last rs (now (l .entry)) i r) ⌝ }
 {
     if l.len() <= i {
         if some_offset(table, false, 0, 1) {

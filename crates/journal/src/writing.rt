@@ -1,42 +1,47 @@
 // The bytes of a checkpoint that is to be stored, one at a time: for the set of cells to store, the cells and the
 // commit's fields. The records stand by rising cell number.
 use crate::Commit;
+use crate::ERASED;
 use crate::MARK;
 use crate::MARK_END;
 use crate::RECORD;
+use crate::pages::fill;
 use cellset::CellSet;
-use cellset::contains;
 use cellset::count;
+use cellset::is_in;
 use cellset::nth;
 use word::byte;
 use word::store16;
 use word::store32;
 ghost use mathlib.Core.Path.{_≡_};
 ghost use mathlib.Core.List.{List};
-ghost use Prim.Native.Nat.{ℕ, _+_, _≤_, _<_};
-ghost use lib.ListN.{length, getD};
+ghost use Prim.Native.Nat.{ℕ, _+_, _-_, _≤_, _<_};
+ghost use lib.ListN.{length, getD, replicate};
 ghost use lib.Dec.{leb};
 ghost use lib.Seq.{sets};
 ghost use Rattle.cellset.specs.Bits.{has};
-ghost use Rattle.journal.specs.Format.{recordImage, commitImage, image};
+ghost use Rattle.journal.specs.Format.{formatOf, recordImage, commitImage, image, padded};
 ghost use Rattle.journal.specs.declared.Commit;
 ghost use Rattle.journal.specs.Writing.{checkpointOf};
 
-// How many bytes the checkpoint has.
-pub fn size(s: CellSet) -> usize
-    ensures { λ r. ⌜ ((values : List ℕ) (c : Commit) → r ≡ length (image (checkpointOf (s .words) values c))) ⌝ }
+// How many bytes are stored of the checkpoint, the last page filled.
+pub fn size(s: CellSet, page: usize) -> usize
+    requires { ⌜ (0 < page) × (page ≤ 16) ⌝ }
+    ensures { λ r. ⌜ ((values : List ℕ) (c : Commit) → r ≡ length (padded (formatOf page) (checkpointOf (s .words) values c))) ⌝ }
 {
-    6 * count(s) as usize + 14
+    let bytes = 6 * count(s) as usize + 14;
+    bytes + fill(bytes, page)
 }
 
 // Whether it fits between `at` and the end of a journal of `len` bytes.
-pub fn fits(s: CellSet, at: usize, len: usize) -> bool
-    ensures { λ r. ⌜ ((values : List ℕ) (c : Commit) → r ≡ leb (at + length (image (checkpointOf (s .words) values c))) len) ⌝ }
+pub fn fits(s: CellSet, at: usize, len: usize, page: usize) -> bool
+    requires { ⌜ (0 < page) × (page ≤ 16) ⌝ }
+    ensures { λ r. ⌜ ((values : List ℕ) (c : Commit) → r ≡ leb (at + length (padded (formatOf page) (checkpointOf (s .words) values c))) len) ⌝ }
 {
     if len < at {
         return false;
     }
-    size(s) <= len - at
+    size(s, page) <= len - at
 }
 
 // The k-th byte of a record.
@@ -80,11 +85,14 @@ fn commit_byte(c: Commit, k: usize) -> u8
     0
 }
 
-// The k-th byte of the checkpoint, 0 past its end.
+// The k-th byte of the checkpoint; past its end the filling, FF.
 pub fn image_byte(s: CellSet, values: &[u32; 256], c: Commit, k: usize) -> u8
-    ensures { λ r. ⌜ r ≡ getD (image (checkpointOf (s .words) (now (values .entry)) c)) k 0 ⌝ }
+    ensures { λ r. ⌜ r ≡ getD (image (checkpointOf (s .words) (now (values .entry)) c)) k 0xFF ⌝ }
 {
     let records = 6 * count(s) as usize;
+    if records + 14 <= k {
+        return ERASED;
+    }
     if records <= k {
         return commit_byte(c, k - records);
     }
@@ -93,8 +101,8 @@ pub fn image_byte(s: CellSet, values: &[u32; 256], c: Commit, k: usize) -> u8
 }
 
 // A record from offset `at` on.
-fn record_into(buffer: &mut [u8; 1550], at: usize, cell: u8, value: u32)
-    requires { ⌜ at + 6 ≤ 1550 ⌝ }
+fn record_into(buffer: &mut [u8; 1568], at: usize, cell: u8, value: u32)
+    requires { ⌜ at + 6 ≤ 1568 ⌝ }
     ensures { λ _. ⌜ now (buffer .exit) ≡ sets (now (buffer .entry)) at (recordImage (record { cell = cell; value = value })) ⌝ }
 {
     buffer[at] = RECORD;
@@ -103,8 +111,8 @@ fn record_into(buffer: &mut [u8; 1550], at: usize, cell: u8, value: u32)
 }
 
 // A commit from offset `at` on.
-fn commit_into(buffer: &mut [u8; 1550], at: usize, c: Commit)
-    requires { ⌜ at + 14 ≤ 1550 ⌝ }
+fn commit_into(buffer: &mut [u8; 1568], at: usize, c: Commit)
+    requires { ⌜ at + 14 ≤ 1568 ⌝ }
     ensures { λ _. ⌜ now (buffer .exit) ≡ sets (now (buffer .entry)) at (commitImage c) ⌝ }
 {
     buffer[at] = MARK;
@@ -115,26 +123,43 @@ fn commit_into(buffer: &mut [u8; 1550], at: usize, c: Commit)
     buffer[at + 13] = MARK_END;
 }
 
-// All bytes of the checkpoint of a set of cells below n, from the buffer's start on; gives their number.
+// FF from `from` to `to`.
+fn fill_into(buffer: &mut [u8; 1568], from: usize, to: usize)
+    requires { ⌜ to ≤ 1568 ⌝ }
+    ensures { λ _. ⌜ now (buffer .exit) ≡ sets (now (buffer .entry)) from (replicate (to - from) 0xFF) ⌝ }
+{
+    let mut k = from;
+    while k < to {
+        buffer[k] = ERASED;
+        k += 1;
+    }
+}
+
+// All that is stored of the checkpoint of a set of cells below n, from the buffer's start on; gives the number of bytes.
 pub fn image_into(
-    buffer: &mut [u8; 1550],
+    buffer: &mut [u8; 1568],
     s: CellSet,
     values: &[u32; 256],
     c: Commit,
     n: usize,
+    page: usize,
 ) -> usize
-    requires { ⌜ (n ≤ 256) × ((j : ℕ) → n ≤ j → j < 256 → has (s .words) j ≡ 0) ⌝ }
-    ensures { λ r. ⌜ (r ≡ length (image (checkpointOf (s .words) (now (values .entry)) c))) × (now (buffer .exit) ≡ sets (now (buffer .entry)) 0 (image (checkpointOf (s .words) (now (values .entry)) c))) ⌝ }
+    requires { ⌜ (n ≤ 256) × ((j : ℕ) → n ≤ j → j < 256 → has (s .words) j ≡ 0) × (0 < page) × (page ≤ 16) ⌝ }
+    ensures { λ r. ⌜ (r ≡ length (padded (formatOf page) (checkpointOf (s .words) (now (values .entry)) c))) × (now (buffer .exit) ≡ sets (now (buffer .entry)) 0 (padded (formatOf page) (checkpointOf (s .words) (now (values .entry)) c))) ⌝ }
 {
+    let words = s.words;
     let mut at: usize = 0;
     let mut cell: usize = 0;
     while cell < n {
-        if contains(s, cell as u8) {
+        if is_in(&words, cell as u8) {
             record_into(buffer, at, cell as u8, values[cell]);
             at += 6;
         }
         cell += 1;
     }
     commit_into(buffer, at, c);
-    at + 14
+    let end = at + 14;
+    let total = end + fill(end, page);
+    fill_into(buffer, end, total);
+    total
 }

@@ -11,9 +11,9 @@ use Rattle.layout.specs.Numbers.{numbersFrom, bytesOfAll}
 abbrev pub stateSize : ℕ
 stateSize = 1312
 
--- the state that bytes hold
-unfoldable pub regsIn : List ℕ → Regs
-regsIn b =
+-- the state that bytes hold, in a call for a kind of chip, which is no part of them
+unfoldable pub regsIn : (page : ℕ) → List ℕ → Regs
+regsIn page b =
     record {
       pc = loadOf 4 b 1280;
       exclude = loadOf 4 b 1284;
@@ -23,6 +23,7 @@ regsIn b =
       write = loadOf 4 b 1300;
       erase = loadOf 4 b 1304;
       saving = loadOf 4 b 1308;
+      page = page;
     }
 
 unfoldable pub cellsIn : List ℕ → List ℕ
@@ -32,8 +33,8 @@ unfoldable pub marksIn : List ℕ → List ℕ
 marksIn b = numbersFrom 1 256 b 1024
 
 -- with a journal
-abbrev pub machineIn : (state journal : List ℕ) → Machine
-machineIn b l = machineOf (regsIn b) (cellsIn b) (marksIn b) l
+abbrev pub machineIn : (page : ℕ) → (state journal : List ℕ) → Machine
+machineIn page b l = machineOf (regsIn page b) (cellsIn b) (marksIn b) l
 
 -- the bytes that hold a state
 abbrev pub regsList : Regs → List ℕ

@@ -1,6 +1,6 @@
 // Runs document 01's small plan through `machine`, whose functions take the state by `&mut`: twice a power-up, the
 // second after a cut inside a save. `lend` lends the state, and its walk is by hand; the rest is covered. A line
-// to a call gives its answer, the registers and the plan's three cells: of recovery 0 or the number of its refusal,
+// to a call gives its answer, eight registers and the plan's three cells: of recovery 0 or the number of its refusal,
 // of a step or a run how it ended (1 to 3 a stop and its kind, 4 budget spent, 5 no reading left, 6 output buffer
 // full, or `refused` and the number), its steps, readings taken and outputs written. Last stand outputs and chip.
 use instruction::byte_at;
@@ -23,8 +23,9 @@ struct Powered {
     state: State,
 }
 
-// A power-up: recovery, a step and a run, all on the one state that lives here. Here the step, at the plan's start or
-// at a torn save, takes no reading and gives no output, so the run is lent the same readings and outputs.
+// A power-up on a byte chip: recovery, a step and a run, all on the one state that lives here. Here the step, at the
+// plan's start or at a torn save, takes no reading and gives no output, so the run is lent the same readings and
+// outputs.
 fn lend(
     mut state: State,
     program: &[u8],
@@ -36,7 +37,7 @@ fn lend(
 ) -> Powered
     ensures { λ r. ⌜ PowersUp (envOf (now (program .entry)) (now (sets .entry))) (now (readings .entry)) budget state (now (journal .entry)) (now (outputs .entry)) r (now (journal .exit)) (now (outputs .exit)) ⌝ }
 {
-    let recovered = machine::recover(&mut state, program, sets, journal);
+    let recovered = machine::recover(&mut state, program, sets, journal, 1);
     let found = state;
     let first = machine::step(&mut state, program, sets, journal, readings, outputs);
     let stepped = state;
@@ -71,6 +72,7 @@ fn spoiled() -> State {
             write: 61,
             erase: 4,
             saving: 6,
+            page: 1,
         },
         cells: [0xdead_beefu32; 256],
         marks: [9u8; 256],
@@ -121,7 +123,7 @@ fn passed(p: Passed) {
     number(p.written as u64);
 }
 
-// The registers in the order of their declaration, and the three cells.
+// The registers in the order of their declaration, but for the page length, which stays 1, and the three cells.
 fn left(s: State) {
     let r = s.regs;
     let cells = s.cells;

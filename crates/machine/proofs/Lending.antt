@@ -2,7 +2,7 @@
 -- what `run`'s functions give back, the steps by which the state's borrow is opened and closed, a local is passed on and freed, and a state and slices are lent
 -- for a call and come back; the rule for a call; and a table of the parameters.
 -- Assumes nothing.
-use Rattle.machine.proofs.Walking.{_≡_, refl, sym, _∙_, ap, subst, ℕ, zero, _<_, _^_, suc, [], _∷_, List, _++_, length, URA, fullShare, Ty, Operand}
+use Rattle.machine.proofs.Walking.{_≡_, refl, sym, _∙_, ap, subst, ℕ, zero, _<_, _^_, suc, [], _∷_, List, _++_, length, URA, fullShare, Ty, Operand, Width}
 use Rattle.machine.proofs.Walking.{copy, place, named, erased, w64, Name, Place, Code, seq, call, Val, vptr, Fits, ent, sep, via, monoL, monoR, emp, id⊢}
 use Rattle.machine.proofs.Walking.{Gv, Lft, Share, GName, Fml, fat, fdies, flft, flent, fobs, fauth, fres, fbor, fobor, Heap, Env, spotOf, Calls, Loops}
 use Rattle.machine.proofs.Walking.{Atoms, sem, use0, Given, Item, ‵, _⊛_, some, given, later, mean, ⋆, nth, del, pull, push, Goal, frees, Soaks, Seq}
@@ -10,7 +10,7 @@ use Rattle.machine.proofs.Walking.{Step, step, _$_, move, use1, use2, u
 use Rattle.machine.proofs.Walking.{Post, runs, lands, ⊢++, pop, Opds, look, stop, from, load, and-then, free1, Body, lft-new, lft-end, Is, shows, mem}
 use Rattle.machine.proofs.Walking.{cellAt, RattleType, owns, Denots, Valss, RefT, MutRef, ptr-vals, mut-tells, MutSlice, ShrSlice, sliceVal, finally}
 use Rattle.machine.proofs.Walking.{shr-slice-copy, slice-vals, mut-slice-tells, shr-slice-tells, lends-ref, ref-back, only, opens, closes, owned, peeks}
-use Rattle.machine.proofs.Walking.{facts, spelt, Lfts, Shares, toks, FmC, uint-vals, uint-tells, u64, plain, shrSliceOf, typeAt, typesAt, Triple}
+use Rattle.machine.proofs.Walking.{facts, spelt, Lfts, Shares, toks, FmC, UInt, uint-vals, uint-tells, plain, shrSliceOf, typeAt, typesAt, Triple}
 use Rattle.machine.proofs.Walking.{calls-at, Lasts, lasts, Ended, Clauses, closing, atExit, Args, Vals, Res, tripleOf, Stays, stay-ref, stay-dropped}
 use Rattle.machine.proofs.Walking.{gave-slice, AllGo, goes-ref, goes-dropped, goes-gave-slice, yes, Stay, Goes, Silent, all, Slot, AllWithin, meetAt}
 use Rattle.machine.proofs.Walking.{mutRefTo, mutSliceOf, Tells, Spells, Tellss, Ises, flat, AllOutlive}
@@ -295,9 +295,9 @@ module _ {n : ℕ} where
     tell = λ κs. mut-tells (named j) (meetAt n (j ∷ []) ok κs) T.the-row;
   }
 
-  -- a number of 64 bits
-  abbrev pub number-of : Param n
-  number-of = data-of u64 (uint-vals w64) (uint-tells w64) (λ M 𝓤 H A W κs x f. refl)
+  -- a number of this width
+  abbrev pub number-of : Width → Param n
+  number-of w = data-of (UInt w) (uint-vals w) (uint-tells w) (λ M 𝓤 H A W κs x f. refl)
 
   -- a `&` slice, of which nothing is had, and a `&mut` slice that is given up for good
   abbrev pub shared-at : (j : ℕ) → AllWithin n (j ∷ []) → RattleType → Param n

@@ -69,12 +69,18 @@ pub fn run(
     }
 }
 
-// Recovery, into the state lent.
-pub fn recover(state: &mut State, program: &[u8], sets: &[u64], journal: &[u8]) -> Recovered
-    ensures { λ r. ⌜ RecoverIs (envOf (now (program .entry)) (now (sets .entry))) (machineOf (now (state .entry) .regs) (now (state .entry) .cells) (now (state .entry) .marks) (now (journal .entry))) (recovery.outcome r (machineOf (now (state .exit) .regs) (now (state .exit) .cells) (now (state .exit) .marks) (now (journal .entry)))) ⌝ }
+// Recovery from a journal on a chip with pages of so many bytes, into the state lent.
+pub fn recover(
+    state: &mut State,
+    program: &[u8],
+    sets: &[u64],
+    journal: &[u8],
+    page: u32,
+) -> Recovered
+    ensures { λ r. ⌜ RecoverIs (envOf (now (program .entry)) (now (sets .entry))) page (machineOf (now (state .entry) .regs) (now (state .entry) .cells) (now (state .entry) .marks) (now (journal .entry))) (recovery.outcome r (machineOf (now (state .exit) .regs) (now (state .exit) .cells) (now (state .exit) .marks) (now (journal .entry)))) ⌝ }
 {
     let s = *state;
-    let r = recover_value(s, program, sets, journal);
+    let r = recover_value(s, program, sets, journal, page);
     *state = r.state;
     r.answer
 }

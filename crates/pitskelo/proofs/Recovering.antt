@@ -26,51 +26,52 @@ unfolding setsIn
 words-in ws words e h = h ∙ ap (λ (n : ℕ). numbersFrom 8 n ws 0) e
 
 -- a state as it was loaded
-abbrev pub Loaded : List ℕ → Regs → (cells marks : List ℕ) → Type 0
-Loaded b r xs ms = (r ≡ regsIn b) × (xs ≡ cellsIn b) × (ms ≡ marksIn b)
+abbrev pub Loaded : (page : ℕ) → List ℕ → Regs → (cells marks : List ℕ) → Type 0
+Loaded page b r xs ms = (r ≡ regsIn page b) × (xs ≡ cellsIn b) × (ms ≡ marksIn b)
 
 -- with a chip it is the machine of the bytes
-pub machine-loaded : (b : List ℕ) {r : Regs} {xs ms : List ℕ} (chip : List ℕ) → Loaded b r xs ms → machineOf r xs ms chip ≡ machineIn b chip
-machine-loaded b chip l = λ i. machineOf (l .0 i) (l .1 i) (l .2 i) chip
+pub machine-loaded : (page : ℕ) (b : List ℕ) {r : Regs} {xs ms : List ℕ} (chip : List ℕ) → Loaded page b r xs ms → machineOf r xs ms chip ≡ machineIn page b chip
+machine-loaded page b chip l = λ i. machineOf (l .0 i) (l .1 i) (l .2 i) chip
 
 -- what holds of the words and the machine holds of those that they are equal to
 pub carried : (P : Env → Machine → Type 0) (p : List ℕ) {vs ws : List ℕ} {m n : Machine} → vs ≡ ws → m ≡ n → P (envOf p vs) m → P (envOf p ws) n
 carried P p {ws} {m} e f h = subst (λ (n : Machine). P (envOf p ws) n) f (subst (λ (us : List ℕ). P (envOf p us) m) e h)
 
 -- a state of another length
-pub odd-recovery : (p ws chip state : List ℕ) {k : ℕ} → ¬ (length state ≡ 1312) → k ≡ oddState p ws → RecoverCall p ws chip state state k
-odd-recovery p ws chip state {k} odd h =
+pub odd-recovery : (page : ℕ) (p ws chip state : List ℕ) {k : ℕ} → ¬ (length state ≡ 1312) → k ≡ oddState p ws → RecoverCall page p ws chip state state k
+odd-recovery page p ws chip state {k} odd h =
     record {
-      outcome = outcome Restored (machineIn state chip);
+      outcome = outcome Restored (machineIn page state chip);
       recovers = λ e. absurd (odd e);
       number = rw (ne-eqb (length state) 1312 odd) h;
       left = rw (ne-eqb k 0 (λ z. odd-refused p ws (sym h ∙ z)));
     }
 
-module _ (p ws chip state words : List ℕ) {n : ℕ} {q : Regs} {xs ms : List ℕ} (size : length state ≡ 1312) (few : n ≡ min (length ws / 8) 512)
-    (loaded : take n words ≡ numbersFrom 8 n ws 0) (from : Loaded state q xs ms) {a : Recovered} {m : Machine}
-    (r : Recovers (envOf p (take n words)) (machineOf q xs ms chip) (outcome a m)) where
+module _ (page : ℕ) (p ws chip state words : List ℕ) {n : ℕ} {q : Regs} {xs ms : List ℕ} (size : length state ≡ 1312) (few : n ≡ min (length ws / 8) 512)
+    (loaded : take n words ≡ numbersFrom 8 n ws 0) (from : Loaded page state q xs ms) {a : Recovered} {m : Machine}
+    (r : Recovers (envOf p (take n words)) page (machineOf q xs ms chip) (outcome a m)) where
   -- the outcome is that of what the bytes hold
-  recovered : Recovers (envOf p (setsIn ws)) (machineIn state chip) (outcome a m)
-  recovered = carried (λ (e : Env) (m₀ : Machine). Recovers e m₀ (outcome a m)) p (words-in ws words few loaded) (machine-loaded state chip from) r
+  recovered : Recovers (envOf p (setsIn ws)) page (machineIn page state chip) (outcome a m)
+  recovered = carried (λ (e : Env) (m₀ : Machine). Recovers e page m₀ (outcome a m)) p (words-in ws words few loaded) (machine-loaded page state chip from) r
 
   -- a refusal leaves the state
-  pub refused-recovery : {k : ℕ} → k ≡ answerOf a .number → ¬ (k ≡ 0) → RecoverCall p ws chip state state k
+  pub refused-recovery : {k : ℕ} → k ≡ answerOf a .number → ¬ (k ≡ 0) → RecoverCall page p ws chip state state k
   refused-recovery {k} h some =
       record { outcome = outcome a m; recovers = λ e. recovered; number = rw (eq-eqb (length state) 1312 size) h; left = rw (ne-eqb k 0 some) }
 
   -- else the outcome's is stored
-  pub done-recovery : {k : ℕ} → k ≡ answerOf a .number → k ≡ 0 → {b : List ℕ} → b ≡ bytesOfState m → RecoverCall p ws chip state b 0
+  pub done-recovery : {k : ℕ} → k ≡ answerOf a .number → k ≡ 0 → {b : List ℕ} → b ≡ bytesOfState m → RecoverCall page p ws chip state b 0
   done-recovery h z l = record { outcome = outcome a m; recovers = λ e. recovered; number = rw (eq-eqb (length state) 1312 size) (sym z ∙ h); left = l }
 
 -- ---- one result, and one content of the state
 
-pub recover-fixed : {p ws chip state left left′ : List ℕ} {k k′ : ℕ} → RecoverCall p ws chip state left k → RecoverCall p ws chip state left′ k′ → (k ≡ k′) × (left ≡ left′)
-recover-fixed {p} {ws} {chip} {state} {k = k} {k′ = k′} x y =
+pub recover-fixed : {page : ℕ} {p ws chip state left left′ : List ℕ} {k k′ : ℕ} → RecoverCall page p ws chip state left k → RecoverCall page p ws chip state left′ k′
+    → (k ≡ k′) × (left ≡ left′)
+recover-fixed {p = p} {ws = ws} {state = state} {k = k} {k′ = k′} x y =
     bool-cases (eqb (length state) stateSize)
     (λ b.
     let size = eqb-true _ _ b in
-    let o = one-outcome _ _ _ _ (x .recovers size) (y .recovers size) in
+    let o = one-outcome _ _ _ _ _ (x .recovers size) (y .recovers size) in
     let same : k ≡ k′ = rw b at (x .number) ∙ ap (λ (r : Outcome). answerOf (r .answer) .number) o ∙ sym (rw b at (y .number)) in
     (same, x .left ∙ (λ i. cond (eqb (same i) 0) (bytesOfState (o i .machine)) state) ∙ sym (y .left)))
     (λ b.

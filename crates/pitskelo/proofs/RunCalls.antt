@@ -44,7 +44,7 @@ pub plan-run : (l : RunLent) {k : ℕ} → length (l .state) ≡ 1312 → k ≡ 
 unfolding runNumber ranOn refusalOf
 plan-run l {k} size h some =
     let n : k ≡ runNumber l =
-    rw (eq-eqb (length (l .state)) 1312 size, call-number (envOf (l .plan) (setsIn (l .sets))) (signedOf (l .readings)) (l .budget) (machineIn (l .state) (l .chip)) (signedOf (l .outputs)), ← h, ne-eqb k 0 some) in
+    rw (eq-eqb (length (l .state)) 1312 size, call-number (envOf (l .plan) (setsIn (l .sets))) (signedOf (l .readings)) (l .budget) (machineIn (l .page) (l .state) (l .chip)) (signedOf (l .outputs)), ← h, ne-eqb k 0 some) in
     ap (runRefused l) n ∙ sym (refuses l (λ z. some (n ∙ z)))
 
 -- bytes of no number
@@ -54,7 +54,7 @@ no-bytes [] h = refl
 no-bytes (v ∷ vs) h = absurd (omega arith)
 
 module _ (l : RunLent) (words : List ℕ) {n : ℕ} {q : Regs} {xs ms : List ℕ} (size : length (l .state) ≡ 1312) (few : n ≡ min (length (l .sets) / 8) 512)
-    (loaded : take n words ≡ numbersFrom 8 n (l .sets) 0) (from : Loaded (l .state) q xs ms) {x : Ended} {m : Machine} {steps taken written : ℕ} {b : List ℕ}
+    (loaded : take n words ≡ numbersFrom 8 n (l .sets) 0) (from : Loaded (l .page) (l .state) q xs ms) {x : Ended} {m : Machine} {steps taken written : ℕ} {b : List ℕ}
     (r : WholeIs (envOf (l .plan) (take n words)) (signedOf (l .readings)) (l .budget) (machineOf q xs ms (l .chip)) (l .outputs) x m
     steps taken written b) where
   -- what was lent, decoded
@@ -62,7 +62,7 @@ module _ (l : RunLent) (words : List ℕ) {n : ℕ} {q : Regs} {xs ms : List ℕ
   env = envOf (l .plan) (setsIn (l .sets))
 
   abbrev first : Machine
-  first = machineIn (l .state) (l .chip)
+  first = machineIn (l .page) (l .state) (l .chip)
 
   abbrev ρ : List ℤ
   ρ = signedOf (l .readings)
@@ -74,7 +74,7 @@ module _ (l : RunLent) (words : List ℕ) {n : ℕ} {q : Regs} {xs ms : List ℕ
   whole : WholeIs env ρ (l .budget) first (l .outputs) x m steps taken written b
   whole =
       carried (λ (e : Env) (m₀ : Machine). WholeIs e ρ (l .budget) m₀ (l .outputs) x m steps taken written b) (l .plan) (words-in (l .sets) words few loaded)
-      (machine-loaded (l .state) (l .chip) from) r
+      (machine-loaded (l .page) (l .state) (l .chip) from) r
 
   -- the places with the outputs in front
   abbrev outs : List ℤ

@@ -30,8 +30,9 @@ pub record PlanIs (p : List ℕ) (n : ℕ) (table : List ℕ) : Type 0 where
   pub number : n ≡ numberOf (checkOf p)
   pub accepted : n ≡ 0 → Legal p × Places p table
 
--- what a run of the bytes is lent
+-- what a run of the bytes is lent; the entry says the page length of the chip
 pub record RunLent : Type 0 where
+  pub page : ℕ
   pub plan : List ℕ
   pub sets : List ℕ
   pub chip : List ℕ
@@ -51,7 +52,7 @@ pub record RunLeft : Type 0 where
 
 -- the machine's outcome
 unfoldable pub ranOn : RunLent → Outcome
-ranOn l = callOf (envOf (l .plan) (setsIn (l .sets))) (signedOf (l .readings)) (l .budget) (machineIn (l .state) (l .chip)) (signedOf (l .outputs))
+ranOn l = callOf (envOf (l .plan) (setsIn (l .sets))) (signedOf (l .readings)) (l .budget) (machineIn (l .page) (l .state) (l .chip)) (signedOf (l .outputs))
 
 unfoldable pub runNumber : RunLent → ℕ
 runNumber l = cond (eqb (length (l .state)) stateSize) (answerOf (ranOn l .ended) .number) (oddState (l .plan) (l .sets))
@@ -74,9 +75,9 @@ runRefused l n = record { result = n; chip = l .chip; state = l .state; outputs 
 unfoldable pub runCallOf : RunLent → RunLeft
 runCallOf l = cond (eqb (runNumber l) 0) (runDone l (ranOn l)) (runRefused l (runNumber l))
 
--- pitskelo_recover: the result, and the state's bytes after the call from those before it
-pub record RecoverCall (p ws chip state₀ state : List ℕ) (result : ℕ) : Type 0 where
+-- the entries that recover, with the page length of their kind of chip: the result, and the state's bytes after the call from those before it
+pub record RecoverCall (page : ℕ) (p ws chip state₀ state : List ℕ) (result : ℕ) : Type 0 where
   pub outcome : recovery.Outcome
-  pub recovers : length state₀ ≡ stateSize → Recovers (envOf p (setsIn ws)) (machineIn state₀ chip) outcome
+  pub recovers : length state₀ ≡ stateSize → Recovers (envOf p (setsIn ws)) page (machineIn page state₀ chip) outcome
   pub number : result ≡ cond (eqb (length state₀) stateSize) (recovery.answerOf (outcome .answer) .number) (oddState p ws)
   pub left : state ≡ cond (eqb result 0) (bytesOfState (outcome .machine)) state₀

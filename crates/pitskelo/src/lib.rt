@@ -135,17 +135,22 @@ fn restored(answer: Recovered) -> u32
     }
 }
 
-// Restores the state that the chip holds; the lent state's bytes are overwritten.
-#[no_mangle]
-pub extern "C" fn pitskelo_recover(plan: &[u8], sets: &[u8], chip: &[u8], state: &mut [u8]) -> u32
-    ensures { λ r. ⌜ RecoverCall (now (plan .entry)) (now (sets .entry)) (now (chip .entry)) (now (state .entry)) (now (state .exit)) r ⌝ }
+// How many bytes a byte chip stores as a unit.
+const BYTE: u32 = 1;
+
+// How many bytes a page chip stores as a unit.
+const PAGE: u32 = 16;
+
+// Restores the state that a chip with pages of so many bytes holds; the lent state's bytes are overwritten.
+fn recover_lent(page: u32, plan: &[u8], sets: &[u8], chip: &[u8], state: &mut [u8]) -> u32
+    ensures { λ r. ⌜ RecoverCall page (now (plan .entry)) (now (sets .entry)) (now (chip .entry)) (now (state .entry)) (now (state .exit)) r ⌝ }
 {
     if state.len() != 1312 {
         return odd_state(plan, sets);
     }
     let n = word_count(sets);
     let words = load_words(sets, n);
-    let recovery = recover_value(load_state(state), plan, &words[..n], chip);
+    let recovery = recover_value(load_state(state, page), plan, &words[..n], chip, page);
     let answer = recovery.answer;
     let number = restored(answer);
     if number != 0 {
@@ -154,6 +159,27 @@ pub extern "C" fn pitskelo_recover(plan: &[u8], sets: &[u8], chip: &[u8], state:
     let after = recovery.state;
     store_state(state, after);
     0
+}
+
+// Restores the state that a byte chip holds.
+#[no_mangle]
+pub extern "C" fn pitskelo_recover(plan: &[u8], sets: &[u8], chip: &[u8], state: &mut [u8]) -> u32
+    ensures { λ r. ⌜ RecoverCall 1 (now (plan .entry)) (now (sets .entry)) (now (chip .entry)) (now (state .entry)) (now (state .exit)) r ⌝ }
+{
+    recover_lent(BYTE, plan, sets, chip, state)
+}
+
+// Restores the state that a page chip holds.
+#[no_mangle]
+pub extern "C" fn pitskelo_page_recover(
+    plan: &[u8],
+    sets: &[u8],
+    chip: &[u8],
+    state: &mut [u8],
+) -> u32
+    ensures { λ r. ⌜ RecoverCall 16 (now (plan .entry)) (now (sets .entry)) (now (chip .entry)) (now (state .entry)) (now (state .exit)) r ⌝ }
+{
+    recover_lent(PAGE, plan, sets, chip, state)
 }
 
 // The refusal of a plan, 0 where it is accepted and the table, blank before, has its places.
@@ -172,8 +198,8 @@ fn plan_refusal(plan: &[u8], table: &mut [u8; 2048]) -> u32
 }
 
 // Runs the plan from the lent state for at most `budget` steps.
-#[no_mangle]
-pub extern "C" fn pitskelo_run(
+fn run_lent(
+    page: u32,
     plan: &[u8],
     sets: &[u8],
     chip: &mut [u8],
@@ -186,7 +212,7 @@ pub extern "C" fn pitskelo_run(
     taken: &mut u64,
     given: &mut u64,
 ) -> u32
-    ensures { λ r. ⌜ record { result = r; chip = now (chip .exit); state = now (state .exit); outputs = now (outputs .exit); numbers = now (ended .exit) ∷ now (steps .exit) ∷ now (taken .exit) ∷ now (given .exit) ∷ [] } ≡ runCallOf (record { plan = now (plan .entry); sets = now (sets .entry); chip = now (chip .entry); state = now (state .entry); readings = now (readings .entry); outputs = now (outputs .entry); budget = budget; numbers = now (ended .entry) ∷ now (steps .entry) ∷ now (taken .entry) ∷ now (given .entry) ∷ [] }) ⌝ }
+    ensures { λ r. ⌜ record { result = r; chip = now (chip .exit); state = now (state .exit); outputs = now (outputs .exit); numbers = now (ended .exit) ∷ now (steps .exit) ∷ now (taken .exit) ∷ now (given .exit) ∷ [] } ≡ runCallOf (record { page = page; plan = now (plan .entry); sets = now (sets .entry); chip = now (chip .entry); state = now (state .entry); readings = now (readings .entry); outputs = now (outputs .entry); budget = budget; numbers = now (ended .entry) ∷ now (steps .entry) ∷ now (taken .entry) ∷ now (given .entry) ∷ [] }) ⌝ }
 {
     if state.len() != 1312 {
         return odd_state(plan, sets);
@@ -201,7 +227,7 @@ pub extern "C" fn pitskelo_run(
     let mut cells = load_cells(state);
     let mut marks = load_marks(state);
     let ran = run_all(
-        load_regs(state),
+        load_regs(state, page),
         plan,
         &table,
         &words[..n],
@@ -224,4 +250,70 @@ pub extern "C" fn pitskelo_run(
     *taken = pass.taken as u64;
     *given = pass.written as u64;
     0
+}
+
+// Runs the plan on a byte chip, from the lent state for at most `budget` steps.
+#[no_mangle]
+pub extern "C" fn pitskelo_run(
+    plan: &[u8],
+    sets: &[u8],
+    chip: &mut [u8],
+    state: &mut [u8],
+    readings: &[u8],
+    outputs: &mut [u8],
+    budget: u64,
+    ended: &mut u32,
+    steps: &mut u64,
+    taken: &mut u64,
+    given: &mut u64,
+) -> u32
+    ensures { λ r. ⌜ record { result = r; chip = now (chip .exit); state = now (state .exit); outputs = now (outputs .exit); numbers = now (ended .exit) ∷ now (steps .exit) ∷ now (taken .exit) ∷ now (given .exit) ∷ [] } ≡ runCallOf (record { page = 1; plan = now (plan .entry); sets = now (sets .entry); chip = now (chip .entry); state = now (state .entry); readings = now (readings .entry); outputs = now (outputs .entry); budget = budget; numbers = now (ended .entry) ∷ now (steps .entry) ∷ now (taken .entry) ∷ now (given .entry) ∷ [] }) ⌝ }
+{
+    run_lent(
+        BYTE,
+        plan,
+        sets,
+        chip,
+        state,
+        readings,
+        outputs,
+        budget,
+        ended,
+        steps,
+        taken,
+        given,
+    )
+}
+
+// The same on a page chip.
+#[no_mangle]
+pub extern "C" fn pitskelo_page_run(
+    plan: &[u8],
+    sets: &[u8],
+    chip: &mut [u8],
+    state: &mut [u8],
+    readings: &[u8],
+    outputs: &mut [u8],
+    budget: u64,
+    ended: &mut u32,
+    steps: &mut u64,
+    taken: &mut u64,
+    given: &mut u64,
+) -> u32
+    ensures { λ r. ⌜ record { result = r; chip = now (chip .exit); state = now (state .exit); outputs = now (outputs .exit); numbers = now (ended .exit) ∷ now (steps .exit) ∷ now (taken .exit) ∷ now (given .exit) ∷ [] } ≡ runCallOf (record { page = 16; plan = now (plan .entry); sets = now (sets .entry); chip = now (chip .entry); state = now (state .entry); readings = now (readings .entry); outputs = now (outputs .entry); budget = budget; numbers = now (ended .entry) ∷ now (steps .entry) ∷ now (taken .entry) ∷ now (given .entry) ∷ [] }) ⌝ }
+{
+    run_lent(
+        PAGE,
+        plan,
+        sets,
+        chip,
+        state,
+        readings,
+        outputs,
+        budget,
+        ended,
+        steps,
+        taken,
+        given,
+    )
 }

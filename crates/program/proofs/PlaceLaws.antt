@@ -13,18 +13,18 @@ use Rattle.program.specs.Places.{opcodeBefore, isStart, afterCheckpoint,
 use Rattle.program.proofs.Tests.{bool-cases}
 
 -- of the byte of a start, by its three parts
-start-from : (a b : Bool) (n : ℕ) → startHere (1 + cond a 1 0 + 2 * cond b (n + 1) 0) ≡ true
-start-from a b n = rw (ne-eqb (1 + cond a 1 0 + 2 * cond b (n + 1) 0) 0 (λ e. omega arith))
+start-from : (a b : Bool) (n : ℕ) → startHere (2 + cond a 1 0 + 2 * cond b (n + 1) 0) ≡ true
+start-from a b n = rw (ne-eqb (2 + cond a 1 0 + 2 * cond b (n + 1) 0) 0 (λ e. omega arith))
 
--- the byte is even where the first part is set
-even : (a : Bool) (x : ℕ) → eqb ((1 + cond a 1 0 + 2 * x) % 2) 0 ≡ a
-even true x = eq-eqb ((1 + 1 + 2 * x) % 2) 0 (omega arith)
-even false x = ne-eqb ((1 + 0 + 2 * x) % 2) 0 (λ (e : (1 + 0 + 2 * x) % 2 ≡ 0). omega arith)
+-- the byte is odd where the first part is set
+odd : (a : Bool) (x : ℕ) → eqb ((2 + cond a 1 0 + 2 * x) % 2) 1 ≡ a
+odd true x = eq-eqb ((2 + 1 + 2 * x) % 2) 1 (omega arith)
+odd false x = ne-eqb ((2 + 0 + 2 * x) % 2) 1 (λ (e : (2 + 0 + 2 * x) % 2 ≡ 1). omega arith)
 
-after-from : (a b : Bool) (n : ℕ) → afterHere (1 + cond a 1 0 + 2 * cond b (n + 1) 0) ≡ a
-after-from a b n = rw (start-from a b n) (even a (cond b (n + 1) 0))
+after-from : (a b : Bool) (n : ℕ) → afterHere (2 + cond a 1 0 + 2 * cond b (n + 1) 0) ≡ a
+after-from a b n = odd a (cond b (n + 1) 0)
 
-exclude-from : (a b : Bool) (n : ℕ) → excludeHere (1 + cond a 1 0 + 2 * cond b (n + 1) 0) ≡ cond b (n + 1) 0
+exclude-from : (a b : Bool) (n : ℕ) → excludeHere (2 + cond a 1 0 + 2 * cond b (n + 1) 0) ≡ cond b (n + 1) 0
 exclude-from true b n = omega arith
 exclude-from false b n = omega arith
 

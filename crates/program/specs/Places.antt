@@ -36,10 +36,10 @@ isExclude p t = isStart p t && eqb (byte p t) 0x0D
 abbrev pub excludeNumber : List ℕ → ℕ → ℕ
 excludeNumber p t = excludesBefore p (starts p) t
 
--- the table's byte at a start: 1, 1 more after a CHECKPOINT, and for an EXCLUDE twice its number and 2; j is the opcode before it,
+-- the table's byte at a start: 2, 1 more after a CHECKPOINT, so that one bit tells it, and for an EXCLUDE twice its number and 2; j is the opcode before it,
 -- k its own, n the number of EXCLUDEs before it
 abbrev pub placeFrom : (j k n : ℕ) → ℕ
-placeFrom j k n = 1 + cond (eqb j 0x0E) 1 0 + 2 * cond (eqb k 0x0D) (n + 1) 0
+placeFrom j k n = 2 + cond (eqb j 0x0E) 1 0 + 2 * cond (eqb k 0x0D) (n + 1) 0
 
 -- the byte of offset t, 0 where no instruction starts
 unfoldable pub placeOf : List ℕ → ℕ → ℕ
@@ -58,11 +58,11 @@ abbrev pub startHere : ℕ → Bool
 startHere b = not (eqb b 0)
 
 abbrev pub afterHere : ℕ → Bool
-afterHere b = not (eqb b 0) && eqb (b % 2) 0
+afterHere b = eqb (b % 2) 1
 
 -- 0 where no EXCLUDE stands there, else its number and 1
 abbrev pub excludeHere : ℕ → ℕ
-excludeHere b = (b - 1) / 2
+excludeHere b = b / 2 - 1
 
 unfoldable pub readPlace : ℕ → Place
 readPlace b = record { start = startHere b; after = afterHere b; exclude = excludeHere b }

@@ -37,29 +37,26 @@ pub(crate) fn place_from(before: u8, opcode: u8, number: u32) -> u8
 {
     let after = same_byte(before, CHECKPOINT);
     if opcode != EXCLUDE {
-        return 1 + after;
+        return 2 + after;
     }
     if 64 < number {
-        return 1 + after + 2 * 65;
+        return 2 + after + 2 * 65;
     }
-    1 + after + 2 * (number as u8 + 1)
+    2 + after + 2 * (number as u8 + 1)
 }
 
 // What a byte of the table says.
 fn read_place(entry: u8) -> Place
     ensures { λ r. ⌜ r ≡ readPlace entry ⌝ }
 {
-    if entry == 0 {
-        return Place {
-            start: false,
-            after: false,
-            exclude: 0,
-        };
+    let mut exclude = 0;
+    if 3 < entry {
+        exclude = entry / 2 - 1;
     }
     Place {
-        start: true,
-        after: entry % 2 == 0,
-        exclude: (entry - 1) / 2,
+        start: entry != 0,
+        after: entry % 2 == 1,
+        exclude,
     }
 }
 

@@ -16,11 +16,12 @@ use Rattle.program.proofs.Grounds.{accepted-values}
 use Rattle.marks.specs.Marks.{recoveredMarks}
 use Rattle.journal.specs.declared.Commit.{Commit}
 use Rattle.journal.specs.declared.Scanned.{Scanned}
-use Rattle.journal.specs.declared.Scanned.the-variants.{TooLong, Damaged, Found}
-use Rattle.journal.specs.Format.{Checkpoint}
+use Rattle.journal.specs.declared.Scanned.the-variants.{BadLength, Damaged, Found}
+use Rattle.journal.specs.Format.{Checkpoint, formatOf, chipLength}
 use Rattle.journal.specs.Reading.{Facts, factsOf, first, lastOf, Rising, none, one}
 use Rattle.journal.specs.Answer as reader
 use Rattle.journal.specs.Answer.{factsIn, Taken, Scans}
+use Rattle.journal.proofs.Paging.{chip-length}
 use Rattle.journal.proofs.Fixed.{facts-same, within}
 use Rattle.step.specs.declared.Regs.{Regs}
 use Rattle.step.specs.State.{Env, envOf, Machine, machineOf}
@@ -61,15 +62,15 @@ last-exclude b (s ∷ js) h (one k r) = last-exclude (s .commit) js (k .after .e
 not-zero : {p : List ℕ} {n : ℕ} → Checks p (checked.Refused n) → ¬ (n ≡ 0)
 not-zero h z = omega (arith, accepted-values (h .ruled) z)
 
-module _ (p ws : List ℕ) (m : Machine) where
+module _ (p ws : List ℕ) (page : ℕ) (m : Machine) where
   -- 1 to 8: the program
-  pub refused-program : {n : ℕ} → Checks p (checked.Refused n) → Recovers (envOf p ws) m (outcome (Refused n) m)
+  pub refused-program : {n : ℕ} → Checks p (checked.Refused n) → Recovers (envOf p ws) page m (outcome (Refused n) m)
   unfolding refusalOf
   refused-program {n} h = let z = not-zero h in refuses n (rw (← h .is, ne-eqb n 0 z)) (omega arith) refl
 
   module _ (h : Legal p) where
     -- 9: the words
-    pub refused-words : length ws < 512 → Recovers (envOf p ws) m (outcome (Refused 9) m)
+    pub refused-words : length ws < 512 → Recovers (envOf p ws) page m (outcome (Refused 9) m)
     unfolding refusalOf
     refused-words a = refuses 9 (rw (h .accepted, lt-ltb _ _ a)) (omega arith) refl
 
@@ -81,54 +82,59 @@ module _ (p ws : List ℕ) (m : Machine) where
 -- ---- what scan answers
 
 -- a refusal is recovery's too, with its number
-refusal-made : (e : Env) (a : Scanned) (v : List ℕ) (m : Machine) {n : ℕ} → reader.answerOf a .number ≡ n → 0 < n → recoverOf e a v m ≡ outcome (Refused n) m
+refusal-made : (e : Env) (page : ℕ) (a : Scanned) (v : List ℕ) (m : Machine) {n : ℕ} → reader.answerOf a .number ≡ n → 0 < n
+    → recoverOf e page a v m ≡ outcome (Refused n) m
 unfolding recoverOf
-refusal-made e TooLong v m h l = ap (λ (n : ℕ). outcome (Refused n) m) h
-refusal-made e Damaged v m h l = ap (λ (n : ℕ). outcome (Refused n) m) h
-refusal-made e (Found end torn last) v m h l = absurd (omega arith)
+refusal-made e page BadLength v m h l = ap (λ (n : ℕ). outcome (Refused n) m) h
+refusal-made e page Damaged v m h l = ap (λ (n : ℕ). outcome (Refused n) m) h
+refusal-made e page (Found end torn last) v m h l = absurd (omega arith)
 
 -- all that is known then
-pub record Answered (p ws table chip : List ℕ) (answer : Scanned) (v : List ℕ) : Type 0 where
+pub record Answered (page : ℕ) (p ws table chip : List ℕ) (answer : Scanned) (v : List ℕ) : Type 0 where
   pub legal : Legal p
   pub places : Places p table
   pub words : 512 ≤ length ws
-  pub scans : Scans (factsOf p) chip answer v
+  pub scans : Scans (factsOf (formatOf page) p) chip answer v
 
 -- what a table that is the program's own holds are the program's facts, so that the reading is by them
-pub answered : {p ws : List ℕ} {b : ℕ} (table chip : List ℕ) (answer : Scanned) (v : List ℕ) → Legal p → Places p table → 512 ≤ length ws → b ≡ byte p 0
-    → Scans (factsIn (b + 1) table) chip answer v → Answered p ws table chip answer v
-answered {p} {b = b} table chip answer v h t a e s =
-    let facts : factsIn (b + 1) table ≡ factsOf p = rw e (facts-same p table t) in
+pub answered : (page : ℕ) {p ws : List ℕ} {b : ℕ} (table chip : List ℕ) (answer : Scanned) (v : List ℕ) → Legal p → Places p table → 512 ≤ length ws → b ≡ byte p 0
+    → Scans (factsIn (formatOf page) (b + 1) table) chip answer v → Answered page p ws table chip answer v
+answered page {p} {b = b} table chip answer v h t a e s =
+    let facts : factsIn (formatOf page) (b + 1) table ≡ factsOf (formatOf page) p = rw e (facts-same (formatOf page) p table t) in
     record { legal = h; places = t; words = a; scans = subst (λ (F : Facts). Scans F chip answer v) facts s }
 
-module _ {p ws table chip : List ℕ} {answer : Scanned} {v : List ℕ} (a : Answered p ws table chip answer v) where
+module _ {page : ℕ} {p ws table chip : List ℕ} {answer : Scanned} {v : List ℕ} (a : Answered page p ws table chip answer v) where
   module _ (r : Regs) (xs ms : List ℕ) where
     -- what recovery makes of it
-    of-answer : {b : Scanned} → answer ≡ b → Recovers (envOf p ws) (machineOf r xs ms chip) (recoverOf (envOf p ws) b v (machineOf r xs ms chip))
+    of-answer : {b : Scanned} → answer ≡ b → Recovers (envOf p ws) page (machineOf r xs ms chip) (recoverOf (envOf p ws) page b v (machineOf r xs ms chip))
     of-answer e =
-        reads (no-refusal p ws (machineOf r xs ms chip) (a .legal) (a .words)) answer v (a .scans)
-        (ap (λ (b : Scanned). recoverOf (envOf p ws) b v (machineOf r xs ms chip)) (sym e))
+        reads (no-refusal p ws page (machineOf r xs ms chip) (a .legal) (a .words)) answer v (a .scans)
+        (ap (λ (b : Scanned). recoverOf (envOf p ws) page b v (machineOf r xs ms chip)) (sym e))
 
     -- a refusal has scan's number
     pub refused-chip : {b : Scanned} {n : ℕ} → answer ≡ b → reader.answerOf b .number ≡ n → 0 < n
-        → Recovers (envOf p ws) (machineOf r xs ms chip) (outcome (Refused n) (machineOf r xs ms chip))
+        → Recovers (envOf p ws) page (machineOf r xs ms chip) (outcome (Refused n) (machineOf r xs ms chip))
     refused-chip {b} e h l =
-        subst (Recovers (envOf p ws) (machineOf r xs ms chip)) (refusal-made (envOf p ws) b v (machineOf r xs ms chip) h l) (of-answer e)
+        subst (Recovers (envOf p ws) page (machineOf r xs ms chip)) (refusal-made (envOf p ws) page b v (machineOf r xs ms chip) h l) (of-answer e)
 
     -- the state is restored
-    pub restored : {end torn : ℕ} {last : Commit} {regs : Regs} {marks : List ℕ} → answer ≡ Found end torn last → regs ≡ regsOf end torn last
-        → marks ≡ marksBy (envOf p ws) (last .exclude) → Recovers (envOf p ws) (machineOf r xs ms chip) (outcome Restored (machineOf regs v marks chip))
+    pub restored : {end torn : ℕ} {last : Commit} {regs : Regs} {marks : List ℕ} → answer ≡ Found end torn last → regs ≡ regsOf end torn last page
+        → marks ≡ marksBy (envOf p ws) (last .exclude) → Recovers (envOf p ws) page (machineOf r xs ms chip) (outcome Restored (machineOf regs v marks chip))
     unfolding recoverOf
     restored e f g = rw (f, g) (of-answer e)
 
   module _ {end torn : ℕ} {last : Commit} (e : answer ≡ Found end torn last) where
     -- the journal's reading, of which it is the answer
-    found : (length chip ≤ 65536) × Taken (factsOf p) chip end torn last v
+    found : (chipLength page (length chip) ≡ true) × Taken (factsOf (formatOf page) p) chip end torn last v
     found = rw e at (a .scans)
 
     -- what was found is no longer than the longest chip
     pub found-within : (end ≤ 65536) × (torn ≤ 65536)
-    found-within = let w = within (found .1) in let l = found .0 in (omega arith, omega arith)
+    found-within =
+        let h = chip-length page (length chip) (found .0) in
+        let w = within (h .some) (found .1) (h .whole) in
+        let l = h .most in
+        (omega arith, omega arith)
 
     -- the marks can be made by the last EXCLUDE
     pub found-exclude : Ready (envOf p ws) table × ((last .exclude ≡ 0) ⊎ (isExclude p (last .exclude) ≡ true))

@@ -13,6 +13,7 @@ use Rattle.program.proofs.Grounds.{plan-passes, plan-refuses, by-check, by-word
 use Rattle.program.proofs.Tests.{bool-cases}
 use Rattle.journal.specs.declared.Scanned.{Scanned}
 use Rattle.journal.specs.declared.Scanned.the-variants as scanned
+use Rattle.journal.specs.Format.{formatOf}
 use Rattle.journal.specs.Reading.{Facts, factsOf}
 use Rattle.journal.specs.Answer as reader
 use Rattle.journal.specs.Answer.{Scans}
@@ -30,9 +31,9 @@ bare : {G : ℕ → Type 0} {Values : List ℕ → Type 0} {a : Answer} → Allo
 bare (granted h x) = granted h refl
 bare (denied g h) = denied g h
 
-module _ (e : Env) (chip : List ℕ) where
+module _ (e : Env) (page : ℕ) (chip : List ℕ) where
   abbrev Ruled : ℕ → Type 0
-  Ruled i = Allowed (Ground e chip) (λ vs. vs ≡ []) (record { number = i; values = [] })
+  Ruled i = Allowed (Ground e page chip) (λ vs. vs ≡ []) (record { number = i; values = [] })
 
   -- a refusal by the tests
   refusal-ruled : (n : ℕ) → refusalOf e ≡ n → 0 < n → Ruled n
@@ -45,7 +46,8 @@ module _ (e : Env) (chip : List ℕ) where
       (λ a. subst Ruled (rw a at h) (by-check late-after (plan-refuses _ (eqb-false _ _ a))))
 
   -- where they refuse nothing, the chip reader's answer decides
-  by-chip : {a : Answer} → refusalOf e ≡ 0 → Allowed (reader.Ground (factsOf (e .program)) chip) (reader.Read (factsOf (e .program)) chip) a → Ruled (a .number)
+  by-chip : {a : Answer} → refusalOf e ≡ 0 → Allowed (reader.Ground (factsOf (formatOf page) (e .program)) chip) (reader.Read (factsOf (formatOf page) (e .program)) chip) a
+      → Ruled (a .number)
   unfolding refusalOf
   by-chip h x =
       bool-cases (eqb (numberOf (checkOf (e .program))) 0)
@@ -54,20 +56,20 @@ module _ (e : Env) (chip : List ℕ) where
       (λ b. by-own late-after (plan-passes _ (eqb-true _ _ a)) (λ l. omega (arith, ltb-false (length (e .sets)) 512 b)) (bare x)))
       (λ a. absurd (eqb-false _ _ a (rw a at h)))
 
-  read-ruled : (a : Scanned) (v : List ℕ) (m : Machine) → refusalOf e ≡ 0 → Scans (factsOf (e .program)) chip a v
-      → Allowed (Ground e chip) (λ vs. vs ≡ []) (answerOf (recoverOf e a v m .answer))
+  read-ruled : (a : Scanned) (v : List ℕ) (m : Machine) → refusalOf e ≡ 0 → Scans (factsOf (formatOf page) (e .program)) chip a v
+      → Allowed (Ground e page chip) (λ vs. vs ≡ []) (answerOf (recoverOf e page a v m .answer))
   unfolding recoverOf
-  read-ruled scanned.TooLong v m h s = by-chip h (scan-ruled _ chip scanned.TooLong v s)
+  read-ruled scanned.BadLength v m h s = by-chip h (scan-ruled _ chip scanned.BadLength v s)
   read-ruled scanned.Damaged v m h s = by-chip h (scan-ruled _ chip scanned.Damaged v s)
   read-ruled (scanned.Found end torn last) v m h s = by-chip h (scan-ruled _ chip (scanned.Found end torn last) v s)
 
 -- THE ANSWER IS THE ONE THAT THE GROUNDS ALLOW
-ruled : (e : Env) (m : Machine) (r : Outcome) → Recovers e m r → Allowed (Ground e (m .journal)) (λ vs. vs ≡ []) (answerOf (r .answer))
-ruled e m r (refuses n h l k) =
-    subst (λ (o : Outcome). Allowed (Ground e (m .journal)) (λ vs. vs ≡ []) (answerOf (o .answer))) (sym k) (refusal-ruled e (m .journal) n h l)
-ruled e m r (reads h a v s k) =
-    subst (λ (o : Outcome). Allowed (Ground e (m .journal)) (λ vs. vs ≡ []) (answerOf (o .answer))) (sym k) (read-ruled e (m .journal) a v m h s)
+ruled : (e : Env) (page : ℕ) (m : Machine) (r : Outcome) → Recovers e page m r → Allowed (Ground e page (m .journal)) (λ vs. vs ≡ []) (answerOf (r .answer))
+ruled e page m r (refuses n h l k) =
+    subst (λ (o : Outcome). Allowed (Ground e page (m .journal)) (λ vs. vs ≡ []) (answerOf (o .answer))) (sym k) (refusal-ruled e page (m .journal) n h l)
+ruled e page m r (reads h a v s k) =
+    subst (λ (o : Outcome). Allowed (Ground e page (m .journal)) (λ vs. vs ≡ []) (answerOf (o .answer))) (sym k) (read-ruled e page (m .journal) a v m h s)
 
 -- so this is what recovery promises
-pub recover-is : (e : Env) (m : Machine) (r : Outcome) → Recovers e m r → RecoverIs e m r
-recover-is e m r x = record { recovers = x; ruled = ruled e m r x }
+pub recover-is : (e : Env) (page : ℕ) (m : Machine) (r : Outcome) → Recovers e page m r → RecoverIs e page m r
+recover-is e page m r x = record { recovers = x; ruled = ruled e page m r x }

@@ -1,6 +1,6 @@
 // Recovery (document 01: "Every run begins with recovery, on an erased chip too"): the state that a
-// journal holds. `recover_value` takes any program, words, journal and state, and gives the state that the
-// one reading of the journal makes, or a refusal that alters nothing: `RecoverIs` of specs/Recover.antt.
+// journal holds. `recover_value` takes any program, words, journal, page length and state, and gives the
+// state that the one reading of the journal makes, or a refusal that alters nothing: `RecoverIs` of specs/Recover.antt.
 // What that state is good for is proved in crate `restart`.
 use instruction::byte_at;
 use journal::Commit;
@@ -43,10 +43,10 @@ fn refused(state: State, number: u32) -> Recovery
     }
 }
 
-// The registers: the last commit's, with the torn bytes behind the whole checkpoints to erase.
-fn regs_of(end: usize, torn: usize, last: Commit) -> Regs
+// The registers: the last commit's, with the pages of torn bytes behind the whole checkpoints to erase.
+fn regs_of(end: usize, torn: usize, last: Commit, page: u32) -> Regs
     requires { ⌜ (end ≤ 65536) × (torn ≤ 65536) ⌝ }
-    ensures { λ r. ⌜ r ≡ regsOf end torn last ⌝ }
+    ensures { λ r. ⌜ r ≡ regsOf end torn last page ⌝ }
 {
     Regs {
         pc: last.place as u32,
@@ -57,6 +57,7 @@ fn regs_of(end: usize, torn: usize, last: Commit) -> Regs
         write: end as u32,
         erase: torn as u32,
         saving: 0,
+        page: page as usize,
     }
 }
 
@@ -85,21 +86,22 @@ fn recover_legal(
     table: &[u8; 2048],
     sets: &[u64],
     journal: &[u8],
+    page: u32,
 ) -> Recovery
     requires { ⌜ Legal (now program) × Places (now program) (now table) ⌝ }
-    ensures { λ r. ⌜ Recovers (envOf (now (program .entry)) (now (sets .entry))) (machineOf (state .regs) (state .cells) (state .marks) (now (journal .entry))) (outcome (r .answer) (machineOf (r .state .regs) (r .state .cells) (r .state .marks) (now (journal .entry)))) ⌝ }
+    ensures { λ r. ⌜ Recovers (envOf (now (program .entry)) (now (sets .entry))) page (machineOf (state .regs) (state .cells) (state .marks) (now (journal .entry))) (outcome (r .answer) (machineOf (r .state .regs) (r .state .cells) (r .state .marks) (now (journal .entry)))) ⌝ }
 {
     if sets.len() < 512 {
         return refused(state, 9);
     }
-    let contents = scan(journal, byte_at(program, 0), table);
+    let contents = scan(journal, byte_at(program, 0), table, page as usize);
     let answer = contents.answer;
     let cells = contents.values;
     match answer {
-        Scanned::TooLong => refused(state, 11),
+        Scanned::BadLength => refused(state, 11),
         Scanned::Damaged => refused(state, 12),
         Scanned::Found { end, torn, last } => {
-            let regs = regs_of(end, torn, last);
+            let regs = regs_of(end, torn, last, page);
             let marks = marks_by(program, table, sets, last.exclude as usize);
             Recovery {
                 state: State { regs, cells, marks },
@@ -109,9 +111,16 @@ fn recover_legal(
     }
 }
 
-// Recovery, or a refusal that alters nothing; nothing is stored on the journal.
-pub fn recover_value(state: State, program: &[u8], sets: &[u64], journal: &[u8]) -> Recovery
-    ensures { λ r. ⌜ RecoverIs (envOf (now (program .entry)) (now (sets .entry))) (machineOf (state .regs) (state .cells) (state .marks) (now (journal .entry))) (outcome (r .answer) (machineOf (r .state .regs) (r .state .cells) (r .state .marks) (now (journal .entry)))) ⌝ }
+// Recovery from a journal on a chip with pages of so many bytes, or a refusal that alters nothing; nothing is
+// stored on the journal.
+pub fn recover_value(
+    state: State,
+    program: &[u8],
+    sets: &[u64],
+    journal: &[u8],
+    page: u32,
+) -> Recovery
+    ensures { λ r. ⌜ RecoverIs (envOf (now (program .entry)) (now (sets .entry))) page (machineOf (state .regs) (state .cells) (state .marks) (now (journal .entry))) (outcome (r .answer) (machineOf (r .state .regs) (r .state .cells) (r .state .marks) (now (journal .entry)))) ⌝ }
 {
     let mut table = blank();
     match examine(program, &mut table) {
@@ -120,6 +129,6 @@ pub fn recover_value(state: State, program: &[u8], sets: &[u64], journal: &[u8])
             cells: _,
             instructions: _,
             excludes: _,
-        } => recover_legal(state, program, &table, sets, journal),
+        } => recover_legal(state, program, &table, sets, journal, page),
     }
 }

@@ -3,7 +3,7 @@
 use mathlib.Core.Path.{_≡_, refl}
 use mathlib.Core.Bool.{Bool, true, false, cond, _&&_}
 use mathlib.Core.List.{List, [], _∷_}
-use Prim.Native.Nat.{ℕ, zero, suc, _+_, _^_, _<_}
+use Prim.Native.Nat.{ℕ, zero, suc, _+_, _^_, _<_, _-_}
 use native.Mathlib.Omega.{arith}
 use lib.Dec.{eqb, ltb}
 use lib.IntN.{ℤ}
@@ -176,7 +176,7 @@ small-step p words l v m s =
     let same = journal-small m s in
     pick Small (ltb 0 (m .regs .erase)) (λ _. same _ _ _ _ _ _)
     (λ _. pick Small (ltb 0 (m .regs .saving))
-    (λ _. pick Small (eqb (m .regs .saving) (sizeAt p m)) (λ _. same _ _ _ _ _ _) (λ _. same _ _ _ _ _ _))
+    (λ _. pick Small (eqb (m .regs .saving - 1 + m .regs .page) (sizeAt p m)) (λ _. same _ _ _ _ _ _) (λ _. same _ _ _ _ _ _))
     (λ _. pick Small (isSaves (effectAt p v m) && fitsAt p m) (λ _. same _ _ _ _ _ _)
     (λ _. performed-small (envOf p words) (effectAt p v m) m s
     (effect-fits v (m .regs .readings) (m .regs .outputs) (cellsIn (m .cells)) (s .readings) (s .outputs) (s .values) (instructionAt p (m .regs .pc))

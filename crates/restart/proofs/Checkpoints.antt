@@ -17,6 +17,7 @@ use Rattle.program.proofs.Accepted.{Accepted, accepted, start-within}
 use Rattle.program.proofs.AfterLaws.{after-checkpoint}
 use Rattle.execution.specs.Effects.{nextOf}
 use Rattle.marks.specs.Marks.{isStored, toStore, storedFrom, storedCells}
+use Rattle.journal.specs.Format.{Format}
 use Rattle.journal.specs.declared.Commit.{Commit}
 use Rattle.journal.specs.Reading.{factsOf, Absent, Once, Sound, savedIn}
 use Rattle.journal.specs.Writing.{recordsOf}
@@ -125,11 +126,11 @@ module _ (p : List ℕ) {c n e : ℕ} (a : Accepted p c n e) where
       ⊎-elim (λ (z : o ≡ 0). omega arith) (λ t. omega (arith, start-small o (and-both (isStart p o) (eqb (byte p o) 0x0D) t .0))) h
 
 -- at a CHECKPOINT it is sound after each commit whose counts are not higher
-pub checkpoint-sound : (p : List ℕ) → Plan p → (m : Machine) → Small m → isStart p (m .regs .pc) ≡ true → byte p (m .regs .pc) ≡ 0x0E
+pub checkpoint-sound : (G : Format) (p : List ℕ) → Plan p → (m : Machine) → Small m → isStart p (m .regs .pc) ≡ true → byte p (m .regs .pc) ≡ 0x0E
     → (m .regs .exclude ≡ 0) ⊎ (isExclude p (m .regs .exclude) ≡ true) → (b : Commit) → b .readings ≤ m .regs .readings → b .outputs ≤ m .regs .outputs
-    → Sound (factsOf p) b (checkpointAt p m)
+    → Sound (factsOf G p) b (checkpointAt p m)
 unfolding checkpointAt storedCells
-checkpoint-sound p l m s st k x b r o =
+checkpoint-sound G p l m s st k x b r o =
     let a = accepted p (sym (l .legal .accepted)) in
     let e = next-one p (m .regs .pc) k in
     record {

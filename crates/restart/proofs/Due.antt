@@ -1,6 +1,6 @@
 -- What the step that is due does, in its five kinds, with what it adds to the tally, gives and takes.
 -- Assumes nothing.
-use Prim.Native.Nat.{ℕ, suc, _+_, _≤_, _<_, max}
+use Prim.Native.Nat.{ℕ, suc, _+_, _≤_, _<_, max, _-_}
 use mathlib.Core.Path.{_≡_}
 use mathlib.Core.Bool.{Bool, true, false, cond}
 use mathlib.Core.List.{List, []}
@@ -52,8 +52,8 @@ Silent p v m = (givenOf p v m ≡ []) × (takenOf p v m ≡ 0)
 
 pub data Due (p words : List ℕ) (v : ℤ) (m : Machine) : Type 0 where
   erases : 0 < m .regs .erase → stepOf (envOf p words) v m ≡ erasedOf m → Stays p m → Silent p v m → Due p words v m
-  stores : 0 < m .regs .saving → ¬ (m .regs .saving ≡ sizeAt p m) → stepOf (envOf p words) v m ≡ storedOf p m → Stays p m → Silent p v m → Due p words v m
-  completes : 0 < m .regs .saving → m .regs .saving ≡ sizeAt p m → stepOf (envOf p words) v m ≡ storedOf p m → Rises p m true → Silent p v m → Due p words v m
+  stores : 0 < m .regs .saving → ¬ (m .regs .saving - 1 + m .regs .page ≡ sizeAt p m) → stepOf (envOf p words) v m ≡ storedOf p m → Stays p m → Silent p v m → Due p words v m
+  completes : 0 < m .regs .saving → m .regs .saving - 1 + m .regs .page ≡ sizeAt p m → stepOf (envOf p words) v m ≡ storedOf p m → Rises p m true → Silent p v m → Due p words v m
   begins : m .regs .erase ≡ 0 → m .regs .saving ≡ 0 → byte p (m .regs .pc) ≡ 0x0E → stepOf (envOf p words) v m ≡ begun m → Stays p m → Silent p v m
       → Due p words v m
   executes : m .regs .erase ≡ 0 → m .regs .saving ≡ 0 → dueOpcode p m ≡ byte p (m .regs .pc) → stepOf (envOf p words) v m ≡ performed (envOf p words) (effectAt p v m) m
@@ -65,11 +65,11 @@ module _ (p words : List ℕ) (v : ℤ) (m : Machine) where
   unfolding stepOf retires givenOf takenOf
   due-erase a = erases (ltb-true _ _ a) (rw a) (rw a, rw a) (rw a, rw a)
 
-  -- a byte of a save
+  -- a page of a save
   due-byte : ltb 0 (m .regs .erase) ≡ false → ltb 0 (m .regs .saving) ≡ true → Due p words v m
   unfolding stepOf retires givenOf takenOf
   due-byte a b =
-      bool-cases (eqb (m .regs .saving) (sizeAt p m))
+      bool-cases (eqb (m .regs .saving - 1 + m .regs .page) (sizeAt p m))
       (λ c. completes (ltb-true _ _ b) (eqb-true _ _ c) (rw (a, b)) (rw (a, b, c), rw (a, b, c)) (rw (a, b), rw (a, b)))
       (λ c. stores (ltb-true _ _ b) (eqb-false _ _ c) (rw (a, b)) (rw (a, b, c), rw (a, b, c)) (rw (a, b), rw (a, b)))
 

@@ -1,10 +1,11 @@
 -- Histories that exist, computed, so that demand 3 speaks of something. The small plan of document 01: a run is cut inside its second save, recovery finds the
 -- first save and torn bytes, and the next run erases these, takes up at the first save and gives an output again (`small-history`, `small-facts`, `small-claim`).
+-- The same on a page chip, cut between two pages (`page-history`, `page-facts`, `page-claim`).
 -- A plan that ends behind its saves: one run, with the budget that the claim asks for, stops where the uncut run does (`ending-history`, `ending-facts`,
 -- `ending-uses`).
 -- Assumes nothing.
 use Prim.Native.Nat.{ℕ, zero, suc, _+_, _*_, _≤_, _<_}
-use mathlib.Core.Path.{_≡_, refl, ap}
+use mathlib.Core.Path.{_≡_, refl, ap, subst}
 use mathlib.Core.Bool.{true, false}
 use mathlib.Core.List.{List, [], _∷_, _++_}
 use mathlib.Core.Logic.{inl, inr}
@@ -19,9 +20,10 @@ use Rattle.program.proofs.Tests.{and-both}
 use Rattle.execution.specs.Effects.{ended}
 use Rattle.analysis.proofs.Certificates.{allOf}
 use Rattle.analysis.proofs.Computed.{analyses-by}
-use Rattle.journal.specs.Format.{Checkpoint, image}
+use Rattle.journal.specs.Format.{Checkpoint, formatOf, filledOf, image}
 use Rattle.journal.specs.Reading.{factsOf}
 use Rattle.journal.specs.Shape.{Shape}
+use Rattle.journal.proofs.Paging.{whole-none, fill-none}
 use Rattle.journal.proofs.Torn.{Trimmed, trimmed-nil, trimmed-snoc}
 use Rattle.journal.proofs.Back.{erased-shape}
 use Rattle.step.specs.State.{envOf, Machine, machineOf}
@@ -32,7 +34,7 @@ use Rattle.recovery.specs.declared.Recovered.the-variants.{Restored}
 use Rattle.restart.specs.Reference.{zeros, Numbered, refAt, emitted}
 use Rattle.restart.specs.History.{Tally, setBack, System, unused, restored, crashed, Lent, given, refusedRun, Request, outcomeOf, ran, History, begins, recovers, runs, crashed-run}
 use Rattle.restart.specs.Claim.{Plan, Found, distinct, Claim, Chain, one, more, beside-run, Erased}
-use Rattle.restart.specs.Rows.{Trial, envIn, small, smallSets, trial, firstSave}
+use Rattle.restart.specs.Rows.{Trial, envIn, small, smallSets, trialOn, trial, firstSave}
 use Rattle.restart.proofs.Outcomes.{refusalOf, valuesOf, values-some, stateOf, outcome-is}
 use Rattle.restart.proofs.Computing.{computing}
 use Rattle.restart.proofs.Shaped.{shape-by}
@@ -60,7 +62,7 @@ inFour (x ∷ xs) = x ∷ 0 ∷ 0 ∷ 0 ∷ inFour xs
 
 -- what a state may hold before a recovery: no cells, no marks, registers that are not sound
 abbrev pub spoiled : List ℕ → Machine
-spoiled chip = machineOf (record { pc = 4; exclude = 9; readings = 8; outputs = 7; stop = 6; write = 50; erase = 40; saving = 3 }) [] [] chip
+spoiled chip = machineOf (record { pc = 4; exclude = 9; readings = 8; outputs = 7; stop = 6; write = 50; erase = 40; saving = 3; page = 5 }) [] [] chip
 
 abbrev pub tallyOf : (retired committed highest : ℕ) → Tally
 tallyOf r c h = record { retired = r; committed = c; highest = h }
@@ -71,11 +73,11 @@ output n v = record { number = n; value = v }
 module _ (t : Trial) where
   -- 01's own lists
   abbrev Lists : System → Type 0
-  Lists = History (t .program) (t .readings) (t .chip) 0 (Erased (t .chip)) (λ w. w ≡ t .words)
+  Lists = History (t .program) (t .readings) (t .page) (t .chip) 0 (Erased (t .chip)) (λ w. w ≡ t .words)
 
   -- the system after a recovery that finds the checkpoints js and so many torn bytes; the first one finds none
   abbrev pub recovered : System → List Checkpoint → ℕ → System
-  recovered s js torn = restored s (outcome Restored (stateOf (envIn t) js torn (valuesOf js) (s .machine .journal)))
+  recovered s js torn = restored s (outcome Restored (stateOf (envIn t) (t .page) js torn (valuesOf js) (s .machine .journal)))
 
   abbrev pub begun : System
   begun = recovered (unused 0 (spoiled (replicate (t .chip) 0xFF))) [] 0
@@ -85,14 +87,17 @@ module _ (t : Trial) where
   request = record { words = t .words; readings = length (t .readings); budget = t .budget; places = t .places }
 
   -- a recovery finds what stands on the chip
-  recovery : {s : System} → Lists s → (js : List Checkpoint) (q : List ℕ) → Shape (factsOf (t .program)) (s .machine .journal) js q
-      → refusalOf (envIn t) (length (s .machine .journal)) ≡ 0 → Trimmed q → Lists (recovered s js (length q))
+  recovery : {s : System} → Lists s → (js : List Checkpoint) (q : List ℕ) → Shape (factsOf (formatOf (t .page)) (t .program)) (s .machine .journal) js q
+      → refusalOf (envIn t) (t .page) (length (s .machine .journal)) ≡ 0 → Trimmed q → Lists (recovered s js (filledOf (t .page) (length q)))
   recovery {s} h js q shape z trimmed =
-      recovers h (t .words) refl _ (outcome-is (envIn t) (s .machine) js q shape z trimmed (valuesOf js) (values-some js)) refl
+      recovers h (t .words) refl _ (outcome-is (envIn t) (t .page) (s .machine) js q shape z trimmed (valuesOf js) (values-some js)) refl
 
   -- a list begins, and recovers
-  beginning : refusalOf (envIn t) (length {A = ℕ} (replicate (t .chip) 0xFF)) ≡ 0 → Lists begun
-  beginning z = recovery (begins (spoiled (replicate (t .chip) 0xFF)) (length-replicate {A = ℕ} (t .chip) 0xFF) refl) [] [] (erased-shape (t .chip)) z trimmed-nil
+  beginning : refusalOf (envIn t) (t .page) (length {A = ℕ} (replicate (t .chip) 0xFF)) ≡ 0 → Lists begun
+  beginning z =
+      let none : filledOf (t .page) 0 ≡ 0 = omega (arith, fill-none (t .page) 0 (whole-none (t .page))) in
+      subst (λ (torn : ℕ). Lists (recovered (unused 0 (spoiled (replicate (t .chip) 0xFF))) [] torn)) none
+      (recovery (begins (spoiled (replicate (t .chip) 0xFF)) (length-replicate {A = ℕ} (t .chip) 0xFF) refl) [] [] (erased-shape (t .chip)) z trimmed-nil)
 
 -- ---- the small plan
 
@@ -159,10 +164,10 @@ small-taken : Lists (trial 60 1000) smallTaken
 unfolding computing smallBegun smallCut smallTaken
 small-taken =
     recovery (trial 60 1000) small-cut (saveOf 5 1 1 ∷ []) tornBytes
-    (shape-by (factsOf small) (smallCut .machine .journal) (saveOf 5 1 1 ∷ []) (saveOf 12 2 2) 13 refl) refl torn-trimmed
+    (shape-by (factsOf (formatOf 1) small) (smallCut .machine .journal) (saveOf 5 1 1 ∷ []) (saveOf 12 2 2) 13 refl) refl torn-trimmed
 
 -- these calls are a history
-pub small-history : History small smallReadings 60 0 (Erased 60) (λ w. w ≡ smallSets) smallDone
+pub small-history : History small smallReadings 1 60 0 (Erased 60) (λ w. w ≡ smallSets) smallDone
 unfolding computing smallBegun smallCut smallTaken smallDone
 small-history = runs small-taken refl (request (trial 60 1000)) refl tt
 
@@ -197,8 +202,56 @@ unfolding computing smallBegun smallCut smallTaken smallDone
 small-facts = (refl, refl, refl, refl, refl, refl, refl)
 
 -- demand 3 of it
-pub small-claim : Claim small smallReadings zeros 60 0 (λ w. w ≡ smallSets) smallDone
-small-claim = demand-3 small small-plan smallReadings 60 smallSets small-found smallDone small-history
+pub small-claim : Claim small smallReadings zeros 60 0 (λ w. w ≡ smallSets) 1 smallDone
+small-claim = demand-3 1 small small-plan smallReadings 60 smallSets small-found smallDone small-history
+
+-- ---- the small plan on a page chip
+
+-- 96 bytes; the run is cut between the two pages of its second save, behind 15 steps
+unfoldable pub pageBegun : System
+pageBegun = begun (trialOn 16 96 15)
+
+unfoldable pub pageCut : System
+pageCut = crashed (ran small smallReadings pageBegun (request (trialOn 16 96 15))) (spoiled [])
+
+-- recovery finds the first save and a torn page
+unfoldable pub pageTaken : System
+pageTaken = recovered (trialOn 16 96 1000) pageCut (saveOf 5 1 1 ∷ []) 16
+
+unfoldable pub pageDone : System
+pageDone = ran small smallReadings pageTaken (request (trialOn 16 96 1000))
+
+-- the page does not end in FF
+page-trimmed : Trimmed (take 16 (image (saveOf 12 2 2)))
+unfolding computing
+page-trimmed = trimmed-snoc (take 15 (image (saveOf 12 2 2))) 2 (λ e. omega arith)
+
+page-cut : Lists (trialOn 16 96 15) pageCut
+unfolding computing pageBegun pageCut
+page-cut = crashed-run (beginning (trialOn 16 96 15) refl) refl (request (trialOn 16 96 15)) refl tt (spoiled [])
+
+page-taken : Lists (trialOn 16 96 1000) pageTaken
+unfolding computing pageBegun pageCut pageTaken
+page-taken =
+    recovery (trialOn 16 96 1000) page-cut (saveOf 5 1 1 ∷ []) (take 16 (image (saveOf 12 2 2)))
+    (shape-by (factsOf (formatOf 16) small) (pageCut .machine .journal) (saveOf 5 1 1 ∷ []) (saveOf 12 2 2) 16 refl) refl page-trimmed
+
+pub page-history : History small smallReadings 16 96 0 (Erased 96) (λ w. w ≡ smallSets) pageDone
+unfolding computing pageBegun pageCut pageTaken pageDone
+page-history = runs page-taken refl (request (trialOn 16 96 1000)) refl tt
+
+-- the first save is filled, of the second one a page is stored, and one page is to be erased; the outputs are those of the byte chip, in fewer steps
+pub page-facts : (take 48 (pageCut .machine .journal) ≡ firstSave ++ replicate 12 0xFF ++ take 16 (image (saveOf 12 2 2)))
+    × (pageTaken .machine .regs .erase ≡ 16)
+    × (pageDone .outputs ≡ output 0 (pos 5) ∷ output 1 (pos 12) ∷ output 1 (pos 12) ∷ output 2 (pos 10) ∷ [])
+    × (pageDone .machine .regs .write ≡ 96)
+    × (pageDone .steps ≡ 18)
+unfolding computing pageBegun pageCut pageTaken pageDone
+page-facts = (refl, refl, refl, refl, refl)
+
+-- demand 3 of it
+pub page-claim : Claim small smallReadings zeros 96 0 (λ w. w ≡ smallSets) 16 pageDone
+page-claim = demand-3 16 small small-plan smallReadings 96 smallSets small-found pageDone page-history
 
 -- ---- a plan that ends
 
@@ -231,7 +284,7 @@ ending-found = record {
 
 -- no readings, and the budget that the claim asks for: 5 + 2 * 60
 abbrev pub endingTrial : Trial
-endingTrial = record { program = ending; words = endingSets; chip = 60; readings = []; budget = 125; places = pos 0 ∷ [] }
+endingTrial = record { program = ending; words = endingSets; chip = 60; page = 1; readings = []; budget = 125; places = pos 0 ∷ [] }
 
 -- after the first recovery, and after the run
 unfoldable pub endingBegun : System
@@ -245,7 +298,7 @@ unfolding computing endingSets endingBegun
 ending-begun = beginning endingTrial refl
 
 -- these calls are a history
-pub ending-history : History ending [] 60 0 (Erased 60) (λ w. w ≡ endingSets) endingDone
+pub ending-history : History ending [] 1 60 0 (Erased 60) (λ w. w ≡ endingSets) endingDone
 unfolding computing endingSets endingBegun endingDone
 ending-history = runs ending-begun refl (request endingTrial) refl tt
 
@@ -271,8 +324,8 @@ ending-chain = one (request endingTrial) 125 (refl, record { steps = omega arith
 
 -- demand 3 of both systems
 module _ (s : System) (h : Lists endingTrial s) where
-  ending-claim : Claim ending [] zeros 60 0 (λ w. w ≡ endingSets) s
-  ending-claim = demand-3 ending ending-plan [] 60 endingSets ending-found s h
+  ending-claim : Claim ending [] zeros 60 0 (λ w. w ≡ endingSets) 1 s
+  ending-claim = demand-3 1 ending ending-plan [] 60 endingSets ending-found s h
 
 -- so what the claim says of a stop is said of this one: `stopped`, `all`, `steps`, `stops`
 pub ending-uses : ¬ (refAt ending [] zeros (endingDone .tally .highest) .stop ≡ 0)
@@ -320,7 +373,7 @@ echo-found = record {
 
 -- a chip of 20 bytes, which one save fills, and a run with the budget 1,000 that is lent both readings and one place
 abbrev pub echoTrial : Trial
-echoTrial = record { program = echo; words = echoSets; chip = 20; readings = pos 5 ∷ pos 7 ∷ []; budget = 1000; places = pos 0 ∷ [] }
+echoTrial = record { program = echo; words = echoSets; chip = 20; page = 1; readings = pos 5 ∷ pos 7 ∷ []; budget = 1000; places = pos 0 ∷ [] }
 
 abbrev pub echoReadings : List ℤ
 echoReadings = echoTrial .readings
@@ -344,7 +397,7 @@ pub least-facts : let last = outcomeOf echo echoReadings (called echo echoReadin
 unfolding echoBegun
 least-facts = (
   host-chain echo echoReadings 20 echoSets 1 7 46 echoBegun,
-  host-stops echo echoReadings 20 echoSets 1 echo-plan echo-found 7 46 echoBegun echo-begun refl (λ e. omega (arith, echo-stop)) (omega arith),
+  host-stops echo echoReadings 20 echoSets 1 1 echo-plan echo-found 7 46 echoBegun echo-begun refl (λ e. omega (arith, echo-stop)) (omega arith),
 )
 
 -- three runs with the budget 1,000 and one place each, and a refused call behind the first
@@ -387,7 +440,7 @@ echo-chain =
 pub echo-uses : Stopped ended ≡ Stopped (refAt echo echoReadings zeros 7 .stop)
 unfolding echoBegun
 echo-uses =
-    demand-3 echo echo-plan echoReadings 20 echoSets echo-found echoBegun echo-begun
+    demand-3 1 echo echo-plan echoReadings 20 echoSets echo-found echoBegun echo-begun
     .stops refl 7 (λ e. omega (arith, echo-stop)) 1002 (Stopped ended) echoDone echo-chain (omega arith)
 
 -- ---- a plan for a host in C

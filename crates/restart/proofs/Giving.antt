@@ -1,6 +1,6 @@
 -- What a step gives and takes, numbers included, is what the reference run has between the tallies before and after it.
 -- Assumes nothing.
-use Prim.Native.Nat.{ℕ, suc, _+_, _≤_}
+use Prim.Native.Nat.{ℕ, suc, _+_, _≤_, _-_}
 use mathlib.Core.Path.{_≡_, refl, sym, _∙_, ap}
 use mathlib.Core.Bool.{true, false}
 use mathlib.Core.List.{List, [], _∷_}
@@ -48,7 +48,7 @@ readings-count (gives v) k = omega arith
 readings-count sets k = omega arith
 readings-count saves k = omega arith
 
--- a byte erased or stored, and a save begun, leave the counts
+-- a page erased or stored, and a save begun, leave the counts
 abbrev Counts : Machine → Machine → Type 0
 Counts m m′ = (m′ .regs .outputs ≡ m .regs .outputs) × (m′ .regs .readings ≡ m .regs .readings)
 
@@ -62,7 +62,7 @@ counts-begun m = (refl, refl)
 
 counts-stored : (p : List ℕ) (m : Machine) → Counts m (storedOf p m)
 unfolding storedOf
-counts-stored p m = bool-cases (eqb (m .regs .saving) (sizeAt p m)) (λ b. rw b (refl, refl)) (λ b. rw b (refl, refl))
+counts-stored p m = bool-cases (eqb (m .regs .saving - 1 + m .regs .page) (sizeAt p m)) (λ b. rw b (refl, refl)) (λ b. rw b (refl, refl))
 
 counts-performed : (p words : List ℕ) (f : Effect) (m : Machine)
     → (performed (envOf p words) f m .regs .outputs ≡ m .regs .outputs + length (givenBy f))

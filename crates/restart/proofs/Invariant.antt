@@ -15,7 +15,7 @@ use Rattle.marks.specs.declared.Mark.{Mark}
 use Rattle.marks.specs.declared.Mark.the-variants.{Include, Pending, Kept, Dead}
 use Rattle.analysis.specs.Paths.{Live, Region}
 use Rattle.analysis.proofs.Safety.{Inside}
-use Rattle.journal.specs.Format.{Checkpoint, image, images}
+use Rattle.journal.specs.Format.{Checkpoint, image, images, formatOf}
 use Rattle.journal.specs.Reading.{factsOf, first, lastOf, savedValue, Sound}
 use Rattle.journal.specs.Shape.{Shape}
 use Rattle.step.specs.State.{Machine, checkpointAt}
@@ -67,10 +67,12 @@ pub record Held (p : List ℕ) (ρ : List ℤ) (f₀ : Frame) (m : Machine) (js 
 
 -- the journal has the checkpoints js, and behind them torn bytes that are to be erased, or the first k bytes of the checkpoint that is being stored
 pub data Phase (p : List ℕ) (m : Machine) (js : List Checkpoint) : Type 0 where
-  idle : (q : List ℕ) → Shape (factsOf p) (m .journal) js q → m .regs .saving ≡ 0 → m .regs .write ≡ length (images js) → m .regs .erase ≡ length q
+  idle : (q : List ℕ) → Shape (factsOf (formatOf (m .regs .page)) p) (m .journal) js q → m .regs .saving ≡ 0
+      → m .regs .write ≡ length (images (formatOf (m .regs .page)) js) → length q ≤ m .regs .erase
       → Phase p m js
-  saving : (k : ℕ) → Shape (factsOf p) (m .journal) js (take k (image (checkpointAt p m))) → Sound (factsOf p) (lastOf first js) (checkpointAt p m)
-      → m .regs .saving ≡ suc k → m .regs .write ≡ length (images js) + k → m .regs .erase ≡ 0 → Phase p m js
+  saving : (k : ℕ) → Shape (factsOf (formatOf (m .regs .page)) p) (m .journal) js (take k (image (checkpointAt p m)))
+      → Sound (factsOf (formatOf (m .regs .page)) p) (lastOf first js) (checkpointAt p m)
+      → m .regs .saving ≡ suc k → m .regs .write ≡ length (images (formatOf (m .regs .page)) js) + k → m .regs .erase ≡ 0 → Phase p m js
 
 -- ---- both
 
@@ -90,5 +92,5 @@ pub record Inv (p : List ℕ) (ρ : List ℤ) (f₀ : Frame) (n : ℕ) (m : Mach
   pub size : length (m .journal) ≡ n
   pub order : t .committed ≤ t .retired
   pub high : t .retired ≤ t .highest
-  -- each step erased a byte, stored one, retired an instruction or began the save at work
+  -- each step erased a page, which has a byte at least, stored one, retired an instruction or began the save at work
   pub paid : k + m .regs .erase ≤ t .retired + m .regs .write + n + cond (ltb 0 (m .regs .saving)) 1 0

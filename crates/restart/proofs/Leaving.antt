@@ -22,7 +22,7 @@ use Rattle.marks.specs.declared.Mark.{Mark}
 use Rattle.marks.specs.declared.Mark.the-variants.{Include, Pending, Kept, Dead}
 use Rattle.marks.proofs.Laws.{excluded-in, saved-in, recovered-in}
 use Rattle.journal.specs.declared.Commit.{Commit}
-use Rattle.journal.specs.Format.{Checkpoint}
+use Rattle.journal.specs.Format.{Checkpoint, Format}
 use Rattle.journal.specs.Reading.{factsOf, first, lastOf, savedIn, savedValue, Rising}
 use Rattle.journal.proofs.Storing.{last-snoc, saved-snoc}
 use Rattle.step.specs.State.{Env, envOf, Machine, machineOf, commitAt, checkpointAt}
@@ -330,10 +330,10 @@ module _ (p : List ℕ) (ρ : List ℤ) (f₀ : Frame) (plan : Plan p) where
       }
 
   -- recovery takes the checkpoints up
-  pub held-restored : (words : List ℕ) → Safe p words → (js : List Checkpoint) (b : ℕ) → Rising (factsOf p) first js → Resumes p js (refAt p ρ f₀ b)
-      → (values : List ℕ) → length values ≡ 256 → ((c : ℕ) → c < 256 → getD values c 0 ≡ savedValue c js 0) → (end torn : ℕ) (l : List ℕ)
-      → Held p ρ f₀ (machineOf (regsOf end torn (lastOf first js)) values (marksBy (envOf p words) (lastOf first js .exclude)) l) js b b
-  held-restored words s js b r h values size e end torn l =
+  pub held-restored : {G : Format} (words : List ℕ) → Safe p words → (js : List Checkpoint) (b : ℕ) → Rising (factsOf G p) first js → Resumes p js (refAt p ρ f₀ b)
+      → (values : List ℕ) → length values ≡ 256 → ((c : ℕ) → c < 256 → getD values c 0 ≡ savedValue c js 0) → (end torn page : ℕ) (l : List ℕ)
+      → Held p ρ f₀ (machineOf (regsOf end torn (lastOf first js) page) values (marksBy (envOf p words) (lastOf first js .exclude)) l) js b b
+  held-restored words s js b r h values size e end torn page l =
       let x = lastOf first js .exclude in
       record {
         follows = record {

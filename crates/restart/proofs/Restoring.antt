@@ -1,12 +1,13 @@
 -- What recovery makes of a journal that can be taken up: it is accepted, and its state is where the last whole checkpoint was made.
 -- Assumes nothing.
-use Prim.Native.Nat.{ℕ, _+_, _*_, _^_, _≤_, _<_}
+use Prim.Native.Nat.{ℕ, _+_, _-_, _*_, _^_, _≤_, _<_}
 use mathlib.Core.Path.{_≡_, refl, sym, _∙_, ap, subst}
-use mathlib.Core.List.{List, _++_}
+use mathlib.Core.Bool.{true}
+use mathlib.Core.List.{List}
 use mathlib.Core.Logic.{⊎-elim}
 use native.Mathlib.Omega.{arith}
 use lib.IntN.{ℤ}
-use lib.ListN.{length, getD, replicate, length-append, List·getD-eq-default}
+use lib.ListN.{length, getD, List·getD-eq-default}
 use lib.Dec.{eqb}
 use borrow.Author.Tests.{le-ltb}
 use Rattle.cellset.proofs.Bits.{le-or-lt}
@@ -16,10 +17,13 @@ use Rattle.program.proofs.Tests.{bool-cases}
 use Rattle.marks.specs.Marks.{recoveredMarks}
 use Rattle.marks.proofs.Laws.{recovered-out, recovered-length, recovered-small}
 use Rattle.journal.specs.declared.Commit.{Commit}
-use Rattle.journal.specs.declared.Scanned.the-variants.{TooLong, Damaged, Found}
-use Rattle.journal.specs.Format.{Checkpoint, images}
+use Rattle.journal.specs.declared.Scanned.the-variants.{BadLength, Damaged, Found}
+use Rattle.journal.specs.Format.{Checkpoint, formatOf, filledOf, chipLength, images}
 use Rattle.journal.specs.Reading.{Facts, factsOf, first, Rising, lastOf, savedValue}
 use Rattle.journal.specs.Shape.{Shape}
+use Rattle.journal.proofs.Paging.{ChipLength, chip-length, whole-sub, fill-whole, fill-least}
+use Rattle.journal.proofs.Decoding.{images-whole}
+use Rattle.journal.proofs.Storing.{shape-length}
 use Rattle.journal.proofs.Back.{not-damaged}
 use Rattle.step.specs.State.{envOf, Machine}
 use Rattle.step.specs.Ready.{Good}
@@ -65,11 +69,16 @@ module _ (p words : List ℕ) (x : ℕ) where
       marks-by (λ (l : List ℕ). getD l c 0 ≡ 0) p words x (included-zero c)
       (λ at. recovered-out words at (cellsOf p) included c h ∙ included-zero c)
 
--- the checkpoints and what follows them fit the journal
-shape-fits : {F : Facts} {chip : List ℕ} {js : List Checkpoint} {q : List ℕ} → Shape F chip js q → length (images js) + length q ≤ length chip
-shape-fits {js = js} {q = q} s =
-    let z : List ℕ = replicate (s .free) 0xFF in
-    omega (arith, ap length (s .bytes), length-append (images js ++ q) z, length-append (images js) q)
+-- the checkpoints and the pages with what follows them fit the journal
+shape-fits : {F : Facts} {chip : List ℕ} {js : List Checkpoint} {q : List ℕ} → ChipLength (F .format .page) (length chip) → Shape F chip js q
+    → length (images (F .format) js) + filledOf (F .format .page) (length q) ≤ length chip
+shape-fits {F} {chip} {js = js} {q = q} w s =
+    let L = F .format .page in
+    let i = images (F .format) js in
+    let l = shape-length s in
+    let f = fill-least L (length q) (length chip - length i) (w .some) (omega arith)
+    (whole-sub L (length chip) (length i) (w .whole) (images-whole (F .format) (w .some) js)) in
+    omega (arith, f, l)
 
 -- a saved value is a pattern of 32 bits
 saved-small : {F : Facts} {js : List Checkpoint} (c : ℕ) → Rising F first js → savedValue c js 0 < 2 ^ 32
@@ -81,10 +90,13 @@ saved-out c h r = saved-has c (λ (v : ℕ). v ≡ 0) (λ s cell value e. absurd
 
 -- ---- the state
 
-module _ (p words : List ℕ) (plan : Plan p) (safe : Safe p words) (chip : List ℕ) (js : List Checkpoint) (q : List ℕ) (shape : Shape (factsOf p) chip js q)
-    (values : List ℕ) (saved : Values js values) where
+module _ (p words : List ℕ) (plan : Plan p) (safe : Safe p words) (page : ℕ) (chip : List ℕ) (js : List Checkpoint) (q : List ℕ)
+    (shape : Shape (factsOf (formatOf page) p) chip js q) (values : List ℕ) (saved : Values js values) where
+  abbrev state : Machine
+  state = stateOf (envOf p words) page js (filledOf page (length q)) values chip
+
   -- values and counts are small
-  state-small : Small (stateOf (envOf p words) js (length q) values chip)
+  state-small : Small state
   state-small = record {
     values =
         λ c. ⊎-elim
@@ -96,8 +108,8 @@ module _ (p words : List ℕ) (plan : Plan p) (safe : Safe p words) (chip : List
   }
 
   -- it is sound
-  state-good : length chip ≤ 65536 → Good p (stateOf (envOf p words) js (length q) values chip)
-  state-good l =
+  state-good : ChipLength page (length chip) → Good p state
+  state-good w =
       let x = lastOf first js .exclude in
       record {
         sound =
@@ -109,55 +121,63 @@ module _ (p words : List ℕ) (plan : Plan p) (safe : Safe p words) (chip : List
               cells-clear =
                   zero-from values (cellsOf p) _ (λ j a b. saved .values-are j (omega (arith, plan .bytes 0)) ∙ saved-out j a (shape .rising));
               marks-clear = zero-from _ (cellsOf p) _ (λ j a b. marks-out p words x j a);
-              fits = shape-fits shape;
+              fits = shape-fits w shape;
+              paged = record {
+                some = w .some;
+                few = w .few;
+                write = images-whole (formatOf page) (w .some) js;
+                erase = fill-whole page (length q) (w .some);
+              };
               saves = λ s. absurd (omega arith);
             });
-        most = l;
+        most = w .most;
+        whole = w .whole;
         cells = saved .size;
         marks = marks-length p words x;
       }
 
   -- it is at the tally of the last whole checkpoint
   state-inv : (ρ : List ℤ) (f₀ : Frame) (n : ℕ) (t : Tally) → Resumes p js (refAt p ρ f₀ (t .committed)) → t .committed ≤ t .highest → length chip ≡ n
-      → length chip ≤ 65536 → Inv p ρ f₀ n (stateOf (envOf p words) js (length q) values chip) (setBack t) 0
-  state-inv ρ f₀ n t h c l most = record {
+      → ChipLength page (length chip) → Inv p ρ f₀ n state (setBack t) 0
+  state-inv ρ f₀ n t h c l w = record {
     saves = js;
     held =
-        held-restored p ρ f₀ plan words safe js (t .committed) (shape .rising) h values (saved .size) (saved .values-are) (length (images js)) (length q) chip;
-    phase = idle q shape refl refl refl;
-    good = state-good most;
+        held-restored p ρ f₀ plan words safe js (t .committed) (shape .rising) h values (saved .size) (saved .values-are) (length (images (formatOf page) js)) (filledOf page (length q)) page chip;
+    phase = idle q shape refl refl (omega arith);
+    good = state-good w;
     small = state-small;
     size = l;
     order = omega arith;
     high = c;
-    paid = omega (arith, shape-fits shape);
+    paid = omega (arith, shape-fits w shape);
   }
 
 -- ---- the outcome
 
-module _ (p words : List ℕ) (plan : Plan p) (safe : Safe p words) (m : Machine) (js : List Checkpoint) (q : List ℕ) (shape : Shape (factsOf p) (m .journal) js q) where
+module _ (p words : List ℕ) (plan : Plan p) (safe : Safe p words) (page : ℕ) (m : Machine) (js : List Checkpoint) (q : List ℕ)
+    (shape : Shape (factsOf (formatOf page) p) (m .journal) js q) where
   -- the journal is read
   read : recovery.refusalOf (envOf p words) ≡ 0
   unfolding recovery.refusalOf
   read = rw (plan .legal .accepted, le-ltb (length words) 512 (safe .enough))
 
-  -- and not refused if it is not too long
-  readable : length (m .journal) ≤ 65536 → refusalOf (envOf p words) (length (m .journal)) ≡ 0
-  readable h = rw (read, le-ltb 65536 (length (m .journal)) h)
+  -- and not refused if a chip may have its length
+  readable : chipLength page (length (m .journal)) ≡ true → refusalOf (envOf p words) page (length (m .journal)) ≡ 0
+  readable h = rw (read, h)
 
   -- there is an outcome
-  pub outcome-some : length (m .journal) ≤ 65536 → (r : Outcome) × Recovers (envOf p words) m r
-  outcome-some h = outcomes.outcome-some (envOf p words) m js q shape (readable h)
+  pub outcome-some : chipLength page (length (m .journal)) ≡ true → (r : Outcome) × Recovers (envOf p words) page m r
+  outcome-some h = outcomes.outcome-some (envOf p words) page m js q shape (readable h)
 
   -- each is accepted
-  pub outcome-restored : length (m .journal) ≤ 65536 → (r : Outcome) → Recovers (envOf p words) m r → r .answer ≡ Restored
-  outcome-restored h r x = ap (λ (o : Outcome). o .answer) (outcome-made (envOf p words) m js q shape (readable h) r x .is)
+  pub outcome-restored : chipLength page (length (m .journal)) ≡ true → (r : Outcome) → Recovers (envOf p words) page m r → r .answer ≡ Restored
+  outcome-restored h r x = ap (λ (o : Outcome). o .answer) (outcome-made (envOf p words) page m js q shape (readable h) r x .is)
 
   -- and on no length is the journal damaged
-  pub outcome-sound : (r : Outcome) → Recovers (envOf p words) m r → ¬ (r .answer ≡ Refused 12)
+  pub outcome-sound : (r : Outcome) → Recovers (envOf p words) page m r → ¬ (r .answer ≡ Refused 12)
   unfolding recoverOf
   outcome-sound r (Recovers.refuses n z l e) d = omega (arith, read)
-  outcome-sound r (Recovers.reads z TooLong values s e) d =
+  outcome-sound r (Recovers.reads z BadLength values s e) d =
       let k : Refused 11 ≡ Refused 12 = sym (ap (λ (o : Outcome). o .answer) e) ∙ d in
       let x : _≡_ {A = ℕ} 11 12 = cc in
       omega arith
@@ -166,9 +186,9 @@ module _ (p words : List ℕ) (plan : Plan p) (safe : Safe p words) (m : Machine
 
   -- an accepted one is at the tally of the last whole checkpoint
   pub restored-inv : (ρ : List ℤ) (f₀ : Frame) (n : ℕ) (t : Tally) → Resumes p js (refAt p ρ f₀ (t .committed)) → t .committed ≤ t .highest
-      → length (m .journal) ≡ n → (r : Outcome) → Recovers (envOf p words) m r → r .answer ≡ Restored → Inv p ρ f₀ n (r .machine) (setBack t) 0
+      → length (m .journal) ≡ n → (r : Outcome) → Recovers (envOf p words) page m r → r .answer ≡ Restored → Inv p ρ f₀ n (r .machine) (setBack t) 0
   restored-inv ρ f₀ n t h c l r x a =
-      let most = restored-size (envOf p words) m r x a in
-      let g = outcome-made (envOf p words) m js q shape (readable most) r x in
+      let size = restored-size (envOf p words) page m r x a in
+      let g = outcome-made (envOf p words) page m js q shape (readable size) r x in
       subst (λ (o : Outcome). Inv p ρ f₀ n (o .machine) (setBack t) 0) (sym (g .is))
-      (state-inv p words plan safe (m .journal) js (g .rest) (g .shape) (g .values) (g .saved) ρ f₀ n t h c l most)
+      (state-inv p words plan safe page (m .journal) js (g .rest) (g .shape) (g .values) (g .saved) ρ f₀ n t h c l (chip-length _ _ size))

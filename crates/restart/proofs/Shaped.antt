@@ -1,7 +1,7 @@
 -- A chip's shape, computed: `shaped` tests whether its bytes are given sound checkpoints, nothing or a part of one more, and FF, and `shape-by` turns that into
 -- `Shape`. `savesIn` reads the checkpoints off the bytes; nothing is proved of it, since the test checks what it gives.
 -- Assumes nothing.
-use Prim.Native.Nat.{ℕ, zero, suc, _-_, _^_, _<_}
+use Prim.Native.Nat.{ℕ, zero, suc, _+_, _-_, _*_, _^_, _<_}
 use mathlib.Core.Path.{_≡_, refl, sym}
 use mathlib.Core.Bool.{Bool, true, cond, not, _&&_, _||_}
 use mathlib.Core.List.{List, [], _∷_, _++_}
@@ -13,7 +13,7 @@ use borrow.Author.Tests.{ltb-true, leb-true, eqb-true, eqb-false, not-true}
 use Rattle.word.specs.Bytes.{loadOf}
 use Rattle.program.proofs.Tests.{and-both, or-cases}
 use Rattle.journal.specs.declared.Commit.{Commit}
-use Rattle.journal.specs.Format.{Saved, Checkpoint, image, images}
+use Rattle.journal.specs.Format.{Saved, Checkpoint, fillOf, image, images}
 use Rattle.journal.specs.Reading.{Facts, first, Absent, Once, After, Sound, Rising, lastOf}
 use Rattle.journal.specs.Shape.{Cut, Shape}
 use Rattle.restart.proofs.Testing.{allTrue, true-at, sameNumbers, numbers-same}
@@ -100,7 +100,7 @@ abbrev shapeTests : Facts → (chip : List ℕ) → List Checkpoint → Checkpoi
 shapeTests F chip js s n =
     rises F first js
     ∷ (eqb n 0 || (isSound F (lastOf first js) s && ltb n (length (image s))))
-    ∷ sameNumbers chip (images js ++ take n (image s) ++ replicate (length chip - length (images js) - n) 0xFF)
+    ∷ sameNumbers chip (images (F .format) js ++ take n (image s) ++ replicate (length chip - length (images (F .format) js) - n) 0xFF)
     ∷ []
 
 abbrev pub shaped : Facts → (chip : List ℕ) → List Checkpoint → Checkpoint → (n : ℕ) → Bool
@@ -125,7 +125,7 @@ pub shape-by : (F : Facts) (chip : List ℕ) (js : List Checkpoint) (s : Checkpo
 shape-by F chip js s n h =
     let t = true-at (shapeTests F chip js s n) h in
     record {
-      free = length chip - length (images js) - n;
+      free = length chip - length (images (F .format) js) - n;
       rising = rising-by F first js (t 0);
       cut = cut-by F (lastOf first js) s n (t 1);
       bytes = numbers-same _ _ (t 2);
@@ -141,14 +141,14 @@ abbrev commitIn : List ℕ → Commit
 commitIn l = record { place = loadOf 2 l 1; exclude = loadOf 2 l 3; readings = loadOf 4 l 5; outputs = loadOf 4 l 9 }
 
 -- the checkpoints that they begin with, the first behind the records rs; f bounds the records and commits. `let` leaves a reading that is not taken uncomputed
-unfoldable pub savesFrom : (f : ℕ) → List Saved → List ℕ → List Checkpoint
-savesFrom zero rs l = []
-savesFrom (suc f) rs l =
-    let onward = savesFrom f (rs ++ recordIn l ∷ []) (drop 6 l) in
-    let next = savesFrom f [] (drop 14 l) in
+unfoldable pub savesFrom : (page f : ℕ) → List Saved → List ℕ → List Checkpoint
+savesFrom page zero rs l = []
+savesFrom page (suc f) rs l =
+    let onward = savesFrom page f (rs ++ recordIn l ∷ []) (drop 6 l) in
+    let next = savesFrom page f [] (drop (14 + fillOf page (6 * length rs + 14)) l) in
     cond (eqb (getD l 0 0) 0xA1) onward
     (cond (eqb (getD l 0 0) 0xA2 && eqb (getD l 13 0) 0x5A) (record { records = rs; commit = commitIn l } ∷ next)
     [])
 
-abbrev pub savesIn : List ℕ → List Checkpoint
-savesIn chip = savesFrom (length chip) [] chip
+abbrev pub savesIn : (page : ℕ) → List ℕ → List Checkpoint
+savesIn page chip = savesFrom page (length chip) [] chip

@@ -1,6 +1,6 @@
 -- Where the two layers meet: every step keeps the invariant, and gives and takes what the reference run has between the tallies before and after it.
 -- Assumes nothing.
-use Prim.Native.Nat.{ℕ, suc, _+_, _≤_, _<_}
+use Prim.Native.Nat.{ℕ, suc, _+_, _≤_, _<_, _-_}
 use mathlib.Core.Path.{_≡_, refl, sym, _∙_, ap, subst}
 use mathlib.Core.Bool.{true, false, cond}
 use mathlib.Core.List.{List, [], _∷_, _++_}
@@ -19,6 +19,8 @@ use Rattle.step.specs.State.{envOf, Machine, checkpointAt, sizeAt}
 use Rattle.step.specs.Step.{effectAt, performed, begun, erasedOf, storedOf, stepOf, dueOpcode}
 use Rattle.step.specs.Ready.{Good}
 use Rattle.step.proofs.Facts.{sound-facts}
+use Rattle.step.proofs.Stepping.{erasable}
+use Rattle.journal.specs.Format.{formatOf}
 use Rattle.step.proofs.Keeping.{good-step, step-length}
 use Rattle.step.proofs.Tables.{ready}
 use Rattle.restart.specs.Reference.{Frame, frameOf, effectIn, stays}
@@ -34,15 +36,15 @@ use Rattle.restart.proofs.Phases.{phase-erased, phase-stored, phase-com
 use Rattle.restart.proofs.Due.{Due, erases, stores, completes, begins, executes, due, Stays, Rises, risen, tally-stays, tally-rises}
 
 -- the bytes of a save that stand, at whichever byte
-stored-regs : (p : List ℕ) (m : Machine) → ¬ (m .regs .saving ≡ sizeAt p m)
-    → (storedOf p m .regs .erase ≡ m .regs .erase) × (storedOf p m .regs .write ≡ m .regs .write + 1) × (storedOf p m .regs .saving ≡ m .regs .saving + 1)
+stored-regs : (p : List ℕ) (m : Machine) → ¬ (m .regs .saving - 1 + m .regs .page ≡ sizeAt p m)
+    → (storedOf p m .regs .erase ≡ m .regs .erase) × (storedOf p m .regs .write ≡ m .regs .write + m .regs .page) × (storedOf p m .regs .saving ≡ m .regs .saving + m .regs .page)
 unfolding storedOf
 stored-regs p m h = rw (ne-eqb _ _ h) (refl, refl, refl)
 
-whole-regs : (p : List ℕ) (m : Machine) → m .regs .saving ≡ sizeAt p m
-    → (storedOf p m .regs .erase ≡ m .regs .erase) × (storedOf p m .regs .write ≡ m .regs .write + 1) × (storedOf p m .regs .saving ≡ 0)
+whole-regs : (p : List ℕ) (m : Machine) → m .regs .saving - 1 + m .regs .page ≡ sizeAt p m
+    → (storedOf p m .regs .erase ≡ m .regs .erase) × (storedOf p m .regs .write ≡ m .regs .write + m .regs .page) × (storedOf p m .regs .saving ≡ 0)
 unfolding storedOf
-whole-regs p m h = rw (eq-eqb (m .regs .saving) (sizeAt p m) h) (refl, refl, refl)
+whole-regs p m h = rw (eq-eqb (m .regs .saving - 1 + m .regs .page) (sizeAt p m) h) (refl, refl, refl)
 
 -- 1 while saving
 saving-one : (k : ℕ) → 0 < k → _≡_ {A = ℕ} (cond (ltb 0 k) 1 0) 1
@@ -89,13 +91,13 @@ module _ (p : List ℕ) (ρ : List ℤ) (f₀ : Frame) (plan : Plan p) (words : 
         }))
 
     -- the checkpoint of the present state is sound after the last one
-    present-sound : byte p (m .regs .pc) ≡ 0x0E → Sound (factsOf p) (lastOf first (i .saves)) (checkpointAt p m)
+    present-sound : byte p (m .regs .pc) ≡ 0x0E → Sound (factsOf (formatOf (m .regs .page)) p) (lastOf first (i .saves)) (checkpointAt p m)
     present-sound b =
         let h = i .held in
         let s = sound-facts (i .good .sound) in
         let r = readings-rise p ρ f₀ (t .committed) (t .retired) (i .order) in
         let o = outputs-rise p ρ f₀ (t .committed) (t .retired) (i .order) in
-        checkpoint-sound p plan m (i .small) stands b (s .exclude-is) (lastOf first (i .saves))
+        checkpoint-sound (formatOf (m .regs .page)) p plan m (i .small) stands b (s .exclude-is) (lastOf first (i .saves))
         (omega (arith, r, h .resumes .readings, h .follows .readings)) (omega (arith, o, h .resumes .outputs, h .follows .outputs))
 
     -- while saving, a CHECKPOINT stands there
@@ -106,7 +108,7 @@ module _ (p : List ℕ) (ρ : List ℤ) (f₀ : Frame) (plan : Plan p) (words : 
     unfolding erasedOf
     step-erases a e s =
         built (erasedOf m) e t (tally-stays p m t s (i .high)) (i .saves) (held-same p ρ f₀ plan m (i .saves) _ _ (i .held) _ _ _ _)
-        (phase-erased p m (i .saves) (i .phase) a) (i .order) (i .high) (omega (arith, i .paid))
+        (phase-erased p m (i .saves) (i .phase) (i .good) a) (i .order) (i .high) (omega (arith, i .paid, sound-facts (i .good .sound) .paged .some, erasable (i .good) a))
 
     step-begins : m .regs .erase ≡ 0 → m .regs .saving ≡ 0 → byte p (m .regs .pc) ≡ 0x0E → after ≡ begun m → Stays p m → I after (tallied p m t) (suc k)
     unfolding begun
@@ -115,32 +117,32 @@ module _ (p : List ℕ) (ρ : List ℤ) (f₀ : Frame) (plan : Plan p) (words : 
         built (begun m) e t (tally-stays p m t s (i .high)) (i .saves) (held-same p ρ f₀ plan m (i .saves) _ _ (i .held) _ _ _ _)
         (phase-begun p m (i .saves) (i .phase) x y (present-sound b)) (i .order) (i .high) (omega (arith, i .paid))
 
-    held-stored : ¬ (m .regs .saving ≡ sizeAt p m) → Held p ρ f₀ (storedOf p m) (i .saves) (t .retired) (t .committed)
+    held-stored : ¬ (m .regs .saving - 1 + m .regs .page ≡ sizeAt p m) → Held p ρ f₀ (storedOf p m) (i .saves) (t .retired) (t .committed)
     unfolding storedOf
     held-stored l = rw (ne-eqb _ _ l) (held-same p ρ f₀ plan m (i .saves) _ _ (i .held) _ _ _ _)
 
-    step-stores : 0 < m .regs .saving → ¬ (m .regs .saving ≡ sizeAt p m) → after ≡ storedOf p m → Stays p m → I after (tallied p m t) (suc k)
+    step-stores : 0 < m .regs .saving → ¬ (m .regs .saving - 1 + m .regs .page ≡ sizeAt p m) → after ≡ storedOf p m → Stays p m → I after (tallied p m t) (suc k)
     step-stores a l e s =
         let r = stored-regs p m l in
         let one = saving-one (m .regs .saving) a in
         let two = saving-one (storedOf p m .regs .saving) (omega (arith, r .2)) in
         built (storedOf p m) e t (tally-stays p m t s (i .high)) (i .saves) (held-stored l)
-        (phase-stored p m (i .saves) (i .phase) (i .good) a l) (i .order) (i .high) (omega (arith, i .paid, r .0, r .1, one, two))
+        (phase-stored p m (i .saves) (i .phase) (i .good) a l) (i .order) (i .high) (omega (arith, i .paid, r .0, r .1, one, two, sound-facts (i .good .sound) .paged .some))
 
-    held-whole : 0 < m .regs .saving → m .regs .saving ≡ sizeAt p m
+    held-whole : 0 < m .regs .saving → m .regs .saving - 1 + m .regs .page ≡ sizeAt p m
         → Held p ρ f₀ (storedOf p m) (i .saves ++ (checkpointAt p m ∷ [])) (suc (t .retired)) (suc (t .retired))
     unfolding storedOf
     held-whole a l =
-        rw (eq-eqb (m .regs .saving) (sizeAt p m) l)
+        rw (eq-eqb (m .regs .saving - 1 + m .regs .page) (sizeAt p m) l)
         (held-saved p ρ f₀ plan m (i .saves) _ _ (i .good) (i .held) running (saving-at a) _ _ _ _)
 
-    step-completes : 0 < m .regs .saving → m .regs .saving ≡ sizeAt p m → after ≡ storedOf p m → Rises p m true → I after (tallied p m t) (suc k)
+    step-completes : 0 < m .regs .saving → m .regs .saving - 1 + m .regs .page ≡ sizeAt p m → after ≡ storedOf p m → Rises p m true → I after (tallied p m t) (suc k)
     step-completes a l e s =
         let r = whole-regs p m l in
         let one = saving-one (m .regs .saving) a in
         let none : _≡_ {A = ℕ} (cond (ltb 0 (storedOf p m .regs .saving)) 1 0) 0 = rw (r .2) in
         built (storedOf p m) e (risen true t) (tally-rises p m t true s) (i .saves ++ (checkpointAt p m ∷ [])) (held-whole a l)
-        (phase-completed p m (i .saves) (i .phase) (i .good) a l) (omega arith) (omega arith) (omega (arith, i .paid, r .0, r .1, one, none))
+        (phase-completed p m (i .saves) (i .phase) (i .good) a l) (omega arith) (omega arith) (omega (arith, i .paid, r .0, r .1, one, none, sound-facts (i .good .sound) .paged .some))
 
     -- the effect is the reference run's
     module _ (fed : Fed p ρ v m) (d : dueOpcode p m ≡ byte p (m .regs .pc)) where

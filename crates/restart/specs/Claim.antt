@@ -17,7 +17,7 @@ use Rattle.execution.specs.Effects.{countFull}
 use Rattle.analysis.specs.Paths.{Live, Dead, Region}
 use Rattle.analysis.specs.Analyse.{Analyses}
 use Rattle.analysis.specs.declared.Analysed.the-variants.{Sets}
-use Rattle.journal.specs.Format.{Checkpoint}
+use Rattle.journal.specs.Format.{Checkpoint, formatOf, chipLength}
 use Rattle.journal.specs.Reading.{first, factsOf, lastOf, savedValue}
 use Rattle.journal.specs.Shape.{Shape}
 use Rattle.step.specs.declared.Regs.{Regs}
@@ -59,10 +59,10 @@ pub record Resumes (p : List ℕ) (js : List Checkpoint) (f : Frame) : Type 0 wh
   pub region : ¬ (lastOf first js .exclude ≡ 0) → Region p (lastOf first js .exclude) (f .pc)
 
 -- a journal that can be taken up where f stands: whole sound checkpoints, then nothing or a part of one, then FF
-pub record TakenUp (p : List ℕ) (f : Frame) (chip : List ℕ) : Type 0 where
+pub record TakenUp (page : ℕ) (p : List ℕ) (f : Frame) (chip : List ℕ) : Type 0 where
   pub saves : List Checkpoint
   pub torn : List ℕ
-  pub shape : Shape (factsOf p) chip saves torn
+  pub shape : Shape (factsOf (formatOf page) p) chip saves torn
   pub resumes : Resumes p saves f
 
 -- ---- the claim
@@ -114,13 +114,14 @@ module _ (p : List ℕ) (ρ : List ℤ) (f₀ : Frame) (n t₀ : ℕ) (Words : L
     one : (r : Request) (j : ℕ) → Suffices k s r j → Chain k s j (outcomeOf p ρ (s .machine) r .ended) (ran p ρ s r)
     more : {i : ℕ} {x : Ended} {s′ : System} → Chain k s i x s′ → (r : Request) (j : ℕ) → Suffices k s′ r j
         → Chain k s (i + j) (outcomeOf p ρ (s′ .machine) r .ended) (ran p ρ s′ r)
-    beside-recovery : {i : ℕ} {x : Ended} {s′ : System} → Chain k s i x s′ → (e : Env) (l : Lent) (r : recovery.Outcome)
-        → Recovers e (given l (s′ .machine)) r → ¬ (r .answer ≡ recovered.Restored) → Chain k s i x (refused s′ l r)
+    beside-recovery : {i : ℕ} {x : Ended} {s′ : System} → Chain k s i x s′ → (e : Env) (other : ℕ) (l : Lent) (r : recovery.Outcome)
+        → Recovers e other (given l (s′ .machine)) r → ¬ (r .answer ≡ recovered.Restored) → Chain k s i x (refused s′ l r)
     beside-run : {i : ℕ} {x : Ended} {s′ : System} → Chain k s i x s′ → (e : Env) (l : Lent) (ρ′ : List ℤ) (budget : ℕ) (outs : List ℤ)
         → ¬ Accepted (callOf e ρ′ budget (given l (s′ .machine)) outs .ended)
         → Chain k s i x (refusedRun s′ l (callOf e ρ′ budget (given l (s′ .machine)) outs))
 
-  pub record Claim (s : System) : Type 0 where
+  -- of a list for chips with pages of so many bytes
+  pub record Claim (page : ℕ) (s : System) : Type 0 where
     -- "After each accepted call that no cut ended, place, counts, kind of stop and every cell not dead before that place are the uncut run's after as many
     -- commands as the tally says."
     pub follows : s .good ≡ true → Agrees p (frameOf (s .machine)) (refAt p ρ f₀ (s .tally .retired))
@@ -139,13 +140,13 @@ module _ (p : List ℕ) (ρ : List ℤ) (f₀ : Frame) (n t₀ : ℕ) (Words : L
     pub outputs : distinct [] (s .outputs) ≡ emitted p ρ f₀ t₀ (s .tally .highest)
     pub all : ¬ (refAt p ρ f₀ (s .tally .highest) .stop ≡ 0) → (k : ℕ) → s .tally .highest ≤ k → distinct [] (s .outputs) ≡ emitted p ρ f₀ t₀ k
     pub stopped : s .good ≡ true → ¬ (s .machine .regs .stop ≡ 0) → ¬ (refAt p ρ f₀ (s .tally .highest) .stop ≡ 0)
-    -- "With that plan, those sets and that chip, recovery never gives 12": with any state it has an outcome, and each is accepted, unless the chip is too long
-    pub recoverable : n ≤ 65536 → (words : List ℕ) → Words words → (m : Machine) → m .journal ≡ s .machine .journal
-        → (r : recovery.Outcome) × Recovers (envOf p words) m r
-    pub taken-up : n ≤ 65536 → (words : List ℕ) → Words words → (m : Machine) → m .journal ≡ s .machine .journal
-        → (r : recovery.Outcome) → Recovers (envOf p words) m r → r .answer ≡ recovered.Restored
+    -- "With that plan, those sets and that chip, recovery never gives 12": with any state it has an outcome, and each is accepted, unless no chip of the kind has that length
+    pub recoverable : chipLength page n ≡ true → (words : List ℕ) → Words words → (m : Machine) → m .journal ≡ s .machine .journal
+        → (r : recovery.Outcome) × Recovers (envOf p words) page m r
+    pub taken-up : chipLength page n ≡ true → (words : List ℕ) → Words words → (m : Machine) → m .journal ≡ s .machine .journal
+        → (r : recovery.Outcome) → Recovers (envOf p words) page m r → r .answer ≡ recovered.Restored
     pub not-damaged : (words : List ℕ) → Words words → (m : Machine) → m .journal ≡ s .machine .journal
-        → (r : recovery.Outcome) → Recovers (envOf p words) m r → ¬ (r .answer ≡ recovered.Refused 12)
+        → (r : recovery.Outcome) → Recovers (envOf p words) page m r → ¬ (r .answer ≡ recovered.Refused 12)
     -- "and a run never gives 10 on a state that an accepted call left and no cut has since spoiled": it is never refused
     pub accepted : s .good ≡ true → (words : List ℕ) → Words words → refusalOf (envOf p words) (s .machine) ≡ 0
     -- "If the uncut run stops after n commands, at most n plus twice the chip's length steps follow an accepted recovery before the next"
@@ -173,8 +174,9 @@ pub record Found (p words : List ℕ) : Type 0 where
   pub excludes : ℕ
   pub analyses : Analyses p dead-lent lent dead words (Sets cells instructions excludes)
 
--- demand 3: for every accepted plan, all readings, every chip's length and every list
-abbrev pub Demand3 : Type 0
-Demand3 =
+-- demand 3 for chips with pages of so many bytes: for every accepted plan, all readings, every chip's length and every list. `Demand3 1` is the byte chip's, as document 01
+-- has it, and `Demand3 16` the page chip's: "The restart claim is wanted for this chip beside the byte chip"
+abbrev pub Demand3 : (page : ℕ) → Type 0
+Demand3 page =
     (p : List ℕ) → Plan p → (ρ : List ℤ) (n : ℕ) (words : List ℕ) → Found p words → (s : System)
-    → History p ρ n 0 (Erased n) (λ w. w ≡ words) s → Claim p ρ zeros n 0 (λ w. w ≡ words) s
+    → History p ρ page n 0 (Erased n) (λ w. w ≡ words) s → Claim p ρ zeros n 0 (λ w. w ≡ words) page s

@@ -1,6 +1,6 @@
 -- What a list of calls can reach: document 01, "Lists, cuts and the uncut run". A history is a list of recoveries, runs and crashes (01: cuts), refused calls among them.
 -- Assumes nothing.
-use Prim.Native.Nat.{ℕ, zero, suc, _+_, max}
+use Prim.Native.Nat.{ℕ, zero, suc, _+_, _-_, max}
 use mathlib.Core.Path.{_≡_}
 use mathlib.Core.Bool.{Bool, true, false, cond, _&&_, not}
 use mathlib.Core.List.{List, [], _++_}
@@ -27,7 +27,7 @@ pub record Tally : Type 0 where
 
 -- the step that is due stores a save's final byte
 abbrev pub commits : List ℕ → Machine → Bool
-commits p m = cond (ltb 0 (m .regs .erase)) false (ltb 0 (m .regs .saving) && eqb (m .regs .saving) (sizeAt p m))
+commits p m = cond (ltb 0 (m .regs .erase)) false (ltb 0 (m .regs .saving) && eqb (m .regs .saving - 1 + m .regs .page) (sizeAt p m))
 
 -- it begins a save: "a CHECKPOINT whose save fits"
 abbrev pub beginsSave : List ℕ → Machine → Bool
@@ -178,20 +178,22 @@ module _ (p : List ℕ) (ρ : List ℤ) where
 
   -- ---- histories
 
-  -- n is the chip's length, t₀ the tally at first, `Begins` what the chip holds then, and `Words` the words of DE and RO that accepted calls are lent: "Its accepted calls all
-  -- get one plan, the sets found for it, and that chip and state as last left; nobody else writes these."
-  module _ (n t₀ : ℕ) (Begins Words : List ℕ → Type 0) where
+  -- page is how many bytes the chip stores as a unit ("the accepted calls of a list are all for one kind"), n its length, t₀ the tally at first, `Begins` what the chip
+  -- holds then, and `Words` the words of DE and RO that accepted calls are lent: "Its accepted calls all get one plan, the sets found for it, and that chip and state as last left;
+  -- nobody else writes these."
+  module _ (page n t₀ : ℕ) (Begins Words : List ℕ → Type 0) where
     pub data History : System → Type 0 where
       -- "begins on an erased chip with any state"
       begins : (m : Machine) → length (m .journal) ≡ n → Begins (m .journal) → History (unused t₀ m)
-      -- a refused call: its arguments are any, and the definition refuses them
-      refused-recovery : {s : System} → History s → (e : Env) (l : Lent) (r : recovery.Outcome) → Recovers e (given l (s .machine)) r
+      -- a refused call: its arguments are any, of any kind of chip, and the definition refuses them. A run of another kind on the list's state is one that is lent a state with its
+      -- numbers and another page
+      refused-recovery : {s : System} → History s → (e : Env) (other : ℕ) (l : Lent) (r : recovery.Outcome) → Recovers e other (given l (s .machine)) r
           → ¬ (r .answer ≡ recovered.Restored) → History (refused s l r)
       refused-run : {s : System} → History s → (e : Env) (l : Lent) (ρ′ : List ℤ) (budget : ℕ) (outs : List ℤ)
           → ¬ Accepted (callOf e ρ′ budget (given l (s .machine)) outs .ended)
           → History (refusedRun s l (callOf e ρ′ budget (given l (s .machine)) outs))
       -- an accepted recovery, on any state
-      recovers : {s : System} → History s → (words : List ℕ) → Words words → (r : recovery.Outcome) → Recovers (envOf p words) (s .machine) r
+      recovers : {s : System} → History s → (words : List ℕ) → Words words → (r : recovery.Outcome) → Recovers (envOf p words) page (s .machine) r
           → r .answer ≡ recovered.Restored → History (restored s r)
       -- "A cut falls between two steps, in a recovery call too"
       crashes : {s : System} → History s → (m : Machine) → History (crashed s m)

@@ -4,7 +4,7 @@
 use Prim.Native.Nat.{ℕ, _≤_}
 use mathlib.Core.Path.{_≡_}
 use mathlib.Core.Bool.{Bool, true, false}
-use mathlib.Core.List.{List, [], _∷_, map}
+use mathlib.Core.List.{List, [], _∷_, map, _++_}
 use lib.IntN.{ℤ, pos, negsuc}
 use lib.ListN.{length, getD, take, replicate}
 use Rattle.word.specs.Word.{bitsOf}
@@ -22,17 +22,18 @@ use Rattle.run.specs.declared.Ended.{Ended}
 use Rattle.run.specs.declared.Ended.the-variants.{NoReading, Spent}
 use Rattle.recovery.specs.Recover as recovery
 use Rattle.recovery.specs.Recover.{Recovers}
-use Rattle.recovery.specs.declared.Recovered.the-variants.{Restored}
+use Rattle.recovery.specs.declared.Recovered.the-variants.{Restored, Refused}
 use Rattle.restart.specs.Reference.{zeros, numberedFrom, emitted}
 use Rattle.restart.specs.History.{wrote}
 
 -- ---- runs
 
--- a first run: a plan and the words of its sets, the length of the chip, which is erased, the readings lent, the budget, and the places for outputs
+-- a first run: a plan and the words of its sets, the length of the chip, which is erased, and of its pages, the readings lent, the budget, and the places for outputs
 pub record Trial : Type 0 where
   pub program : List ℕ
   pub words : List ℕ
   pub chip : ℕ
+  pub page : ℕ
   pub readings : List ℤ
   pub budget : ℕ
   pub places : List ℤ
@@ -45,14 +46,14 @@ unfoldable pub ranFrom : Trial → Machine → Outcome
 ranFrom t m = callOf (envIn t) (t .readings) (t .budget) m (t .places)
 
 -- recovery with this chip and any state: it has an outcome, and each is accepted and leaves a machine that Q holds of
-abbrev pub AfterRecovery : Env → List ℕ → (Machine → Type 0) → Type 0
-AfterRecovery e chip Q =
+abbrev pub AfterRecovery : Env → (page : ℕ) → List ℕ → (Machine → Type 0) → Type 0
+AfterRecovery e page chip Q =
     (m : Machine) → m .journal ≡ chip
-    → ((r : recovery.Outcome) × Recovers e m r) × ((r : recovery.Outcome) → Recovers e m r → (r .answer ≡ Restored) × Q (r .machine))
+    → ((r : recovery.Outcome) × Recovers e page m r) × ((r : recovery.Outcome) → Recovers e page m r → (r .answer ≡ Restored) × Q (r .machine))
 
 -- "Every run begins with recovery, on an erased chip too": from the machine that it leaves, the run ends with x, and Q holds of that machine and of what the run leaves
 abbrev pub AfterRun : Trial → Ended → (Machine → Outcome → Type 0) → Type 0
-AfterRun t x Q = AfterRecovery (envIn t) (replicate (t .chip) 0xFF) (λ m. (ranFrom t m .ended ≡ x) × Q m (ranFrom t m))
+AfterRun t x Q = AfterRecovery (envIn t) (t .page) (replicate (t .chip) 0xFF) (λ m. (ranFrom t m .ended ≡ x) × Q m (ranFrom t m))
 
 -- ---- rows
 
@@ -67,6 +68,8 @@ pub data Row : Type 0 where
   chipIs : (t : Trial) (bytes : List ℕ) → Row
   -- a run that the budget ends after it has stored so many bytes: recovery with that chip gives cell c the value v, and these counts
   cutAfter : (t : Trial) (stored c : ℕ) (v : ℤ) (readings outputs : ℕ) → Row
+  -- recovery refuses the chip with this number
+  chipRefused : (t : Trial) (number : ℕ) → Row
   -- an EXCLUDE sets a mark, of a cell that is in DE and RO or not
   markBecomes : (mark : Mark) (de ro : Bool) (after : Mark) → Row
   -- the effect of an instruction where the first cells have these values
@@ -83,8 +86,11 @@ Holds (chipIs t bytes) = AfterRun t NoReading (λ m o. o .machine .journal ≡ b
 Holds (cutAfter t n c v i j) =
     AfterRun t Spent (λ m o.
     (o .machine .regs .write ≡ n)
-    × AfterRecovery (envIn t) (o .machine .journal) (λ m′.
+    × AfterRecovery (envIn t) (t .page) (o .machine .journal) (λ m′.
     (getD (m′ .cells) c 0 ≡ bitsOf v) × (m′ .regs .readings ≡ i) × (m′ .regs .outputs ≡ j)))
+Holds (chipRefused t n) =
+    (m : Machine) → m .journal ≡ replicate (t .chip) 0xFF
+    → ((r : recovery.Outcome) × Recovers (envIn t) (t .page) m r) × ((r : recovery.Outcome) → Recovers (envIn t) (t .page) m r → r .answer ≡ Refused n)
 Holds (markBecomes k de ro after) = excluded k de ro ≡ after
 Holds (effectIs i vs e) = effectOf i (pos 0) 0 0 (cellsIn (map bitsOf vs)) ≡ e
 
@@ -103,17 +109,22 @@ small = 0x02 ∷ 0x02 ∷ 0 ∷ 0 ∷ 0 ∷ 0 ∷ 0 ∷ 0x07 ∷ 0x01 ∷ 0x04 �
 unfoldable pub smallSets : List ℕ
 smallSets = 6 ∷ 0 ∷ 0 ∷ 0 ∷ 4 ∷ 0 ∷ 0 ∷ 0 ∷ replicate 504 0
 
--- it on a chip of n bytes with so much budget, the readings 5, 7, −2, and places enough
-abbrev pub trial : (n budget : ℕ) → Trial
-trial n budget =
+-- it on a chip of n bytes with such pages and so much budget, the readings 5, 7, −2, and places enough
+abbrev pub trialOn : (page n budget : ℕ) → Trial
+trialOn page n budget =
     record {
       program = small;
       words = smallSets;
       chip = n;
+      page = page;
       readings = pos 5 ∷ pos 7 ∷ negsuc 1 ∷ [];
       budget = budget;
       places = replicate 8 (pos 0);
     }
+
+-- on a byte chip
+abbrev pub trial : (n budget : ℕ) → Trial
+trial n budget = trialOn 1 n budget
 
 -- the bytes of the row "first save"
 abbrev pub firstSave : List ℕ
@@ -138,6 +149,12 @@ rows =
     -- "20 bytes of chip hold it, 19 none"
     ∷ chipIs (trial 20 1000) firstSave
     ∷ chipIs (trial 19 1000) (replicate 19 0xFF)
+    -- Q-4: on a page chip 32 bytes hold it, filled, and 16 none; 31 are not divisible by 16
+    ∷ chipIs (trialOn 16 32 1000) (firstSave ++ replicate 12 0xFF)
+    ∷ chipIs (trialOn 16 16 1000) (replicate 16 0xFF)
+    ∷ chipRefused (trialOn 16 31 1000) 11
+    -- "Cuts fall between pages": a cut between its two pages, the 7th step stores the first, recovers to the start
+    ∷ cutAfter (trialOn 16 32 7) 16 0 (pos 0) 0 0
     -- "cut after 33 bytes: cell 0 is 5, both counts 1"; the 45th step stores the 33rd byte
     ∷ cutAfter (trial 60 45) 33 0 (pos 5) 1 1
     -- "Dead, in RO alone: Pending"

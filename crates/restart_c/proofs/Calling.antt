@@ -11,7 +11,7 @@ use borrow.Author.Tests.{eqb-true, eqb-false, eq-eqb, ne-eqb}
 use Rattle.program.specs.Check.{checkOf, numberOf}
 use Rattle.program.proofs.Tests.{bool-cases}
 use Rattle.journal.specs.declared.Scanned.{Scanned}
-use Rattle.journal.specs.declared.Scanned.the-variants.{TooLong, Damaged, Found}
+use Rattle.journal.specs.declared.Scanned.the-variants.{BadLength, Damaged, Found}
 use Rattle.step.specs.State.{Env, Machine}
 use Rattle.run.specs.Run.{started, refusalOf, callOf, answerOf}
 use Rattle.run.proofs.Laws.{steps-within}
@@ -29,23 +29,23 @@ use Rattle.restart.specs.History.{Accepted}
 -- ---- recovery
 
 -- a refused call leaves the state's bytes
-pub recovery-kept : {p ws chip state left : List ℕ} {result : ℕ} → RecoverCall p ws chip state left result → ¬ (result ≡ 0) → left ≡ state
+pub recovery-kept : {page : ℕ} {p ws chip state left : List ℕ} {result : ℕ} → RecoverCall page p ws chip state left result → ¬ (result ≡ 0) → left ≡ state
 recovery-kept {result = result} x z = x .left ∙ rw (ne-eqb result 0 z)
 
 -- what is read and has the number 0 is restored
-read-restored : (e : Env) (a : Scanned) (values : List ℕ) (m : Machine) → 0 ≡ recovery.answerOf (recoverOf e a values m .answer) .number
-    → recoverOf e a values m .answer ≡ Restored
+read-restored : (e : Env) (page : ℕ) (a : Scanned) (values : List ℕ) (m : Machine) → 0 ≡ recovery.answerOf (recoverOf e page a values m .answer) .number
+    → recoverOf e page a values m .answer ≡ Restored
 unfolding recoverOf
-read-restored e TooLong values m h = absurd (omega arith)
-read-restored e Damaged values m h = absurd (omega arith)
-read-restored e (Found end torn last) values m h = refl
+read-restored e page BadLength values m h = absurd (omega arith)
+read-restored e page Damaged values m h = absurd (omega arith)
+read-restored e page (Found end torn last) values m h = refl
 
 -- so is every outcome with it
-outcome-restored : (e : Env) (m : Machine) (r : recovery.Outcome) → Recovers e m r → 0 ≡ recovery.answerOf (r .answer) .number → r .answer ≡ Restored
-outcome-restored e m r (refuses n h l k) z =
+outcome-restored : (e : Env) (page : ℕ) (m : Machine) (r : recovery.Outcome) → Recovers e page m r → 0 ≡ recovery.answerOf (r .answer) .number → r .answer ≡ Restored
+outcome-restored e page m r (refuses n h l k) z =
     let y : 0 ≡ n = z ∙ ap (λ (o : recovery.Outcome). recovery.answerOf (o .answer) .number) k in
     absurd (omega arith)
-outcome-restored e m r (reads h a values s k) z = rw k (read-restored e a values m (rw k at z))
+outcome-restored e page m r (reads h a values s k) z = rw k (read-restored e page a values m (rw k at z))
 
 -- a refusal's number tells it
 pub refused-number : (a : Recovered) (k : ℕ) → ¬ (k ≡ 0) → recovery.answerOf a .number ≡ k → a ≡ Refused k
@@ -59,7 +59,7 @@ odd-number p ws h e =
     let n = eq-eqb (numberOf (checkOf p)) 0 h in
     bool-cases (ltb (length ws / 8) 512) (λ c. let z = rw (n, c) at e in omega arith) (λ c. let z = rw (n, c) at e in omega arith)
 
-module _ {p ws chip state left : List ℕ} (x : RecoverCall p ws chip state left 0) where
+module _ {page : ℕ} {p ws chip state left : List ℕ} (x : RecoverCall page p ws chip state left 0) where
   -- an accepted call was lent a state of the right length
   pub accepted-size : length state ≡ stateSize
   accepted-size =
@@ -69,7 +69,7 @@ module _ {p ws chip state left : List ℕ} (x : RecoverCall p ws chip state left
 
   -- and restored it
   pub accepted-restored : x .outcome .answer ≡ Restored
-  accepted-restored = outcome-restored _ _ (x .outcome) (x .recovers accepted-size) (x .number ∙ rw accepted-size)
+  accepted-restored = outcome-restored _ _ _ (x .outcome) (x .recovers accepted-size) (x .number ∙ rw accepted-size)
 
 -- ---- a run
 

@@ -16,7 +16,7 @@ use Rattle.run.specs.declared.Ended.{Ended}
 use Rattle.run.specs.declared.Ended.the-variants.{Stopped, Spent}
 use Rattle.recovery.proofs.Laws.{journal-stays}
 use Rattle.layout.specs.Numbers.{signedOf}
-use Rattle.layout.specs.Layout.{stateSize, machineIn, bytesOfState}
+use Rattle.layout.specs.Layout.{stateSize, machineIn, bytesOfState, regsIn}
 use Rattle.layout.proofs.Laws.{state-length}
 use Rattle.program.specs.Check.{numberOf}
 use Rattle.program.proofs.Tests.{bool-cases, clash}
@@ -46,22 +46,22 @@ kept : {A : Type 0} (own : Bool) {x y z : A} → x ≡ y → (own ≡ true → y
 kept true e f = e ∙ f refl
 kept false e f = refl
 
-module _ (p : List ℕ) (plan : Plan p) (ws : List ℕ) (found : Found p ws) (ρ : List ℤ) (n : ℕ) where
+module _ (page : ℕ) (p : List ℕ) (plan : Plan p) (ws : List ℕ) (found : Found p ws) (ρ : List ℤ) (n : ℕ) where
   -- accepted calls are lent these words
   abbrev Words : List ℕ → Type 0
   Words w = w ≡ setsIn ws
 
   -- the histories that begin on an erased chip
   abbrev H : System → Type 0
-  H = History p ρ n 0 (Erased n) Words
+  H = History p ρ page n 0 (Erased n) Words
 
   -- the words are safe
   safe : (w : List ℕ) → Words w → Safe p w
   safe w e = subst (Safe p) (sym e) (sets-safe plan found)
 
   -- the invariant of histories
-  held : {s : System} → H s → Upheld p ρ zeros n 0 s
-  held h = upheld p ρ zeros plan n 0 (Erased n) Words (erased-taken p ρ n) safe h
+  held : {s : System} → H s → Upheld p ρ zeros page n 0 s
+  held h = upheld p ρ zeros plan page n 0 (Erased n) Words (erased-taken p ρ page n) safe h
 
   -- a good machine's state has the length of a state
   bytes-size : {m : Machine} {t : Tally} {k : ℕ} → Inv p ρ zeros n m t k → length (bytesOfState m) ≡ stateSize
@@ -70,35 +70,36 @@ module _ (p : List ℕ) (plan : Plan p) (ws : List ℕ) (found : Found p ws) (ρ
   -- ---- an accepted recovery
 
   -- it leaves the bytes of the state that is restored
-  recovered : {b : Board} → H (systemOf b) → (left : List ℕ) → RecoverCall p ws (b .chip) (b .state) left 0 → H (systemOf (restored b left))
+  recovered : {b : Board} → H (systemOf page b) → (left : List ℕ) → RecoverCall page p ws (b .chip) (b .state) left 0 → H (systemOf page (restored b left))
+  unfolding regsIn
   recovered {b} h left x =
       let r = x .outcome in
       let c = x .recovers (accepted-size x) in
-      let g : H (list.restored (systemOf b) r) = list.recovers h (setsIn ws) refl r c (accepted-restored x) in
-      let m : machineIn left (b .chip) ≡ r .machine =
-      (λ i. machineIn (x .left i) (sym (journal-stays _ _ r c) i)) ∙ machine-back plan (held g .inv refl) in
+      let g : H (list.restored (systemOf page b) r) = list.recovers h (setsIn ws) refl r c (accepted-restored x) in
+      let m : machineIn page left (b .chip) ≡ r .machine =
+      (λ i. machineIn (sym (held g .paged refl) i) (x .left i) (sym (journal-stays _ _ _ r c) i)) ∙ machine-back plan (held g .inv refl) in
       subst (λ (m : Machine). H (record { machine = m; good = true; tally = list.setBack (b .tally); outputs = b .outputs; steps = 0 })) (sym m) g
 
   -- ---- an accepted run
 
-  module _ {b : Board} (l : RunLent) (x : Lends p ws ρ n b l) where
+  module _ {b : Board} (l : RunLent) (x : Lends page p ws ρ n b l) where
     -- what it asks for
     abbrev request : Request
     request = record { words = setsIn ws; readings = x .count; budget = l .budget; places = signedOf (l .outputs) }
 
     -- what the machine makes of it
     abbrev made : Outcome
-    made = outcomeOf p ρ (machineIn (b .state) (b .chip)) request
+    made = outcomeOf p ρ (machineIn page (b .state) (b .chip)) request
 
     -- which is the outcome of the bytes
     same-outcome : ranOn l ≡ made
     unfolding ranOn outcomeOf
     same-outcome = λ i.
-        callOf (envOf (x .plan i) (setsIn (x .sets i))) (x .readings i) (l .budget) (machineIn (x .state i) (x .chip i)) (signedOf (l .outputs))
+        callOf (envOf (x .plan i) (setsIn (x .sets i))) (x .readings i) (l .budget) (machineIn (x .kind i) (x .state i) (x .chip i)) (signedOf (l .outputs))
 
     -- what stands in the bytes and numbers that are left is the system after the run
-    done-same : Writes made (l .outputs) → machineIn (bytesOfState (made .machine)) (made .machine .journal) ≡ made .machine
-        → systemOf (ran b l (runDone l made)) ≡ list.ran p ρ (systemOf b) request
+    done-same : Writes made (l .outputs) → machineIn page (bytesOfState (made .machine)) (made .machine .journal) ≡ made .machine
+        → systemOf page (ran b l (runDone l made)) ≡ list.ran p ρ (systemOf page b) request
     unfolding list.ran tallyAfter
     done-same w e =
         let ns = made .steps ∷ made .taken ∷ made .written ∷ [] in
@@ -109,69 +110,75 @@ module _ (p : List ℕ) (plan : Plan p) (ws : List ℕ) (found : Found p ws) (ρ
           machine = e i;
           good = b .good;
           tally =
-              talliedOver (envOf (x .plan i) (setsIn (x .sets i))) (x .readings i) (steps i) (started (machineIn (x .state i) (x .chip i))) (b .tally);
-          outputs = b .outputs ++ numberedFrom (machineIn (x .state i) (x .chip i) .regs .outputs) (outs i);
+              talliedOver (envOf (x .plan i) (setsIn (x .sets i))) (x .readings i) (steps i) (started (machineIn (x .kind i) (x .state i) (x .chip i))) (b .tally);
+          outputs = b .outputs ++ numberedFrom (machineIn (x .kind i) (x .state i) (x .chip i) .regs .outputs) (outs i);
           steps = b .steps + steps i;
         }
 
     -- which is accepted
-    writes : H (systemOf b) → b .good ≡ true → Writes made (l .outputs)
+    writes : H (systemOf page b) → b .good ≡ true → Writes made (l .outputs)
     unfolding outcomeOf
     writes h g =
         call-writes _ _ _ _ (l .outputs) (not-refused (record { legal = plan .legal; words = safe (setsIn ws) refl .enough; good = held h .inv g .good }))
 
     -- so the run is one of a history
-    made-run : H (systemOf b) → b .good ≡ true → H (list.ran p ρ (systemOf b) request)
+    made-run : H (systemOf page b) → b .good ≡ true → H (list.ran p ρ (systemOf page b) request)
     made-run h g = list.runs h g request refl (writes h g .accepted)
 
-    made-inv : (h : H (systemOf b)) (g : b .good ≡ true)
-        → Inv p ρ zeros n (made .machine) (tallyAfter p ρ (systemOf b) request) (b .steps + made .steps)
+    made-inv : (h : H (systemOf page b)) (g : b .good ≡ true)
+        → Inv p ρ zeros n (made .machine) (tallyAfter p ρ (systemOf page b) request) (b .steps + made .steps)
     unfolding list.ran
     made-inv h g = held (made-run h g) .inv g
+
+    -- its bytes hold the machine
+    made-back : (h : H (systemOf page b)) (g : b .good ≡ true) → machineIn page (bytesOfState (made .machine)) (made .machine .journal) ≡ made .machine
+    unfolding list.ran
+    made-back h g =
+        ap (λ (k : ℕ). machineIn k (bytesOfState (made .machine)) (made .machine .journal)) (sym (held (made-run h g) .paged g)) ∙ machine-back plan (made-inv h g)
 
     -- what it leaves
     left-is : runCallOf l .result ≡ 0 → runCallOf l ≡ runDone l made
     left-is z = run-done l z ∙ ap (runDone l) same-outcome
 
     -- and the system that its bytes hold
-    went-same : H (systemOf b) → b .good ≡ true → runCallOf l .result ≡ 0 → systemOf (ran b l (runCallOf l)) ≡ list.ran p ρ (systemOf b) request
-    went-same h g z = ap (λ (o : RunLeft). systemOf (ran b l o)) (left-is z) ∙ done-same (writes h g) (machine-back plan (made-inv h g))
+    went-same : H (systemOf page b) → b .good ≡ true → runCallOf l .result ≡ 0 → systemOf page (ran b l (runCallOf l)) ≡ list.ran p ρ (systemOf page b) request
+    went-same h g z = ap (λ (o : RunLeft). systemOf page (ran b l o)) (left-is z) ∙ done-same (writes h g) (made-back h g)
 
-    went : H (systemOf b) → b .good ≡ true → runCallOf l .result ≡ 0 → H (systemOf (ran b l (runCallOf l)))
+    went : H (systemOf page b) → b .good ≡ true → runCallOf l .result ≡ 0 → H (systemOf page (ran b l (runCallOf l)))
     went h g z = subst H (sym (went-same h g z)) (made-run h g)
 
     -- with the result 0
-    result : H (systemOf b) → b .good ≡ true → length (b .state) ≡ stateSize → runCallOf l .result ≡ 0
+    result : H (systemOf page b) → b .good ≡ true → length (b .state) ≡ stateSize → runCallOf l .result ≡ 0
     result h g size =
         accepted-result l (ap length (x .state) ∙ size)
         (ap (λ (o : Outcome). answerOf (o .ended) .number) same-outcome ∙ accepted-number (made .ended) (writes h g .accepted))
 
-    ran-size : H (systemOf b) → b .good ≡ true → runCallOf l .result ≡ 0 → length (runCallOf l .state) ≡ stateSize
+    ran-size : H (systemOf page b) → b .good ≡ true → runCallOf l .result ≡ 0 → length (runCallOf l .state) ≡ stateSize
     ran-size h g z = ap (λ (o : RunLeft). length (o .state)) (left-is z) ∙ bytes-size (made-inv h g)
 
     -- its tally is the history's
-    same-tally : H (systemOf b) → b .good ≡ true → runCallOf l .result ≡ 0 → ran b l (runCallOf l) .tally ≡ tallyAfter p ρ (systemOf b) request
+    same-tally : H (systemOf page b) → b .good ≡ true → runCallOf l .result ≡ 0 → ran b l (runCallOf l) .tally ≡ tallyAfter p ρ (systemOf page b) request
     unfolding list.ran
     same-tally h g z = ap (λ (s : System). s .tally) (went-same h g z)
 
     -- its numbers behind the kind of ending, and the kind
-    number-is : (h : H (systemOf b)) (g : b .good ≡ true) → runCallOf l .result ≡ 0 → (i : ℕ)
+    number-is : (h : H (systemOf page b)) (g : b .good ≡ true) → runCallOf l .result ≡ 0 → (i : ℕ)
         → getD (runCallOf l .numbers) (suc i) 0 ≡ getD (made .steps ∷ made .taken ∷ made .written ∷ []) i 0
     number-is h g z i = ap (λ (o : RunLeft). getD (o .numbers) (suc i) 0) (left-is z) ∙ number-at (made .ended) (writes h g .accepted) _ i
 
-    kind-is : (h : H (systemOf b)) (g : b .good ≡ true) → runCallOf l .result ≡ 0 → getD (runCallOf l .numbers) 0 0 ≡ getD (answerOf (made .ended) .values) 0 0
+    kind-is : (h : H (systemOf page b)) (g : b .good ≡ true) → runCallOf l .result ≡ 0 → getD (runCallOf l .numbers) 0 0 ≡ getD (answerOf (made .ended) .values) 0 0
     kind-is h g z = ap (λ (o : RunLeft). getD (o .numbers) 0 0) (left-is z) ∙ kind-at (made .ended) (writes h g .accepted) _
 
     -- what it takes and writes, by the claim of the system before it
-    module _ (c : Claim p ρ zeros n 0 Words (systemOf b)) (h : H (systemOf b)) (g : b .good ≡ true) (z : runCallOf l .result ≡ 0) where
+    module _ (c : Claim p ρ zeros n 0 Words page (systemOf page b)) (h : H (systemOf page b)) (g : b .good ≡ true) (z : runCallOf l .result ≡ 0) where
       takes-is : let o = runCallOf l in let t = taken p ρ zeros (b .tally .retired) (ran b l o .tally .retired) in
           (getD (o .numbers) 2 0 ≡ length t)
-          × (numberedFrom (machineIn (b .state) (b .chip) .regs .readings) (take (getD (o .numbers) 2 0) (signedOf (l .readings))) ≡ t)
+          × (numberedFrom (machineIn page (b .state) (b .chip) .regs .readings) (take (getD (o .numbers) 2 0) (signedOf (l .readings))) ≡ t)
       takes-is =
           let k = number-is h g z 1 in
           let t = ap (λ (t : Tally). taken p ρ zeros (b .tally .retired) (t .retired)) (sym (same-tally h g z)) in (
             k ∙ c .counts g request refl .0 ∙ ap length t,
-            (λ i. numberedFrom (machineIn (b .state) (b .chip) .regs .readings) (take (k i) (x .readings i))) ∙ c .takes g request refl ∙ t,
+            (λ i. numberedFrom (machineIn page (b .state) (b .chip) .regs .readings) (take (k i) (x .readings i))) ∙ c .takes g request refl ∙ t,
           )
 
       writes-is : let o = runCallOf l in let t = emitted p ρ zeros (b .tally .retired) (ran b l o .tally .retired) in
@@ -182,45 +189,46 @@ module _ (p : List ℕ) (plan : Plan p) (ws : List ℕ) (found : Found p ws) (ρ
           let outs = ap (λ (o : RunLeft). take (getD (o .numbers) 3 0) (signedOf (o .outputs))) (left-is z)
           ∙ ap (λ (j : ℕ). take j (signedOf (runDone l made .outputs))) (number-at (made .ended) (writes h g .accepted) _ 2) ∙ writes h g .held in (
             k ∙ c .counts g request refl .1 ∙ ap length t,
-            (λ i. numberedFrom (machineIn (x .state i) (x .chip i) .regs .outputs) (outs i)) ∙ c .writes g request refl ∙ t,
+            (λ i. numberedFrom (machineIn (x .kind i) (x .state i) (x .chip i) .regs .outputs) (outs i)) ∙ c .writes g request refl ∙ t,
           )
 
     -- its steps are within its budget
-    steps-most : H (systemOf b) → b .good ≡ true → runCallOf l .result ≡ 0 → getD (runCallOf l .numbers) 1 0 ≤ l .budget
+    steps-most : H (systemOf page b) → b .good ≡ true → runCallOf l .result ≡ 0 → getD (runCallOf l .numbers) 1 0 ≤ l .budget
     unfolding outcomeOf
-    steps-most h g z = omega (arith, number-is h g z 0, call-steps (envOf p (setsIn ws)) (list.lent p ρ (machineIn (b .state) (b .chip)) request) (l .budget) (machineIn (b .state) (b .chip)) (signedOf (l .outputs)))
+    steps-most h g z = omega (arith, number-is h g z 0, call-steps (envOf p (setsIn ws)) (list.lent p ρ (machineIn page (b .state) (b .chip)) request) (l .budget) (machineIn page (b .state) (b .chip)) (signedOf (l .outputs)))
 
     -- what it is equipped for
-    suffices : {k j : ℕ} → Equipped p ρ zeros k (machineIn (b .state) (b .chip) .regs) (l .budget) (length (signedOf (l .readings))) (length (signedOf (l .outputs))) j
-        → restart.Suffices p ρ zeros n 0 Words k (systemOf b) request j
+    suffices : {k j : ℕ} → Equipped p ρ zeros k (machineIn page (b .state) (b .chip) .regs) (l .budget) (length (signedOf (l .readings))) (length (signedOf (l .outputs))) j
+        → restart.Suffices p ρ zeros n 0 Words k (systemOf page b) request j
     suffices e = (refl, record { steps = e .steps; reads = rw (x .readings) at (e .reads); gives = e .gives })
 
   -- ---- EVERY LIST IS A HISTORY
-  history : {b : Board} → Calls p ws ρ n b → H (systemOf b)
-  history (begins state) = list.begins (machineIn state (replicate n 0xFF)) (length-replicate n 0xFF) refl
-  history (refused-recovery {b} c q vs chip state left result x z own same) =
-      subst (λ (st : List ℕ). H (systemOf (holding b st (b .chip)))) (sym (kept own (recovery-kept x z) same)) (history c)
+  history : {b : Board} → Calls page p ws ρ n b → H (systemOf page b)
+  unfolding regsIn
+  history (begins state) = list.begins (machineIn page state (replicate n 0xFF)) (length-replicate n 0xFF) refl
+  history (refused-recovery {b} c kind q vs chip state left result x z own same) =
+      subst (λ (st : List ℕ). H (systemOf page (holding b st (b .chip)))) (sym (kept own (recovery-kept x z) same)) (history c)
   history (refused-run {b} c l z own-state own-chip same-state same-chip) =
       let k = run-kept l z in
       let st = kept own-state (ap (λ (o : RunLeft). o .state) k) same-state in
       let ch = kept own-chip (ap (λ (o : RunLeft). o .chip) k) same-chip in
-      subst H (λ i. systemOf (holding b (sym st i) (sym ch i))) (history c)
+      subst H (λ i. systemOf page (holding b (sym st i) (sym ch i))) (history c)
   history (recovers c left x) = recovered (history c) left x
-  history (crashes c state) = list.crashes (history c) (machineIn state [])
+  history (crashes c state) = list.crashes (history c) (machineIn page state [])
   history (runs c g l x z) = went l x (history c) g z
-  history (crashed-run c g l x z state) = list.crashes (went l x (history c) g z) (machineIn state [])
+  history (crashed-run c g l x z state) = list.crashes (went l x (history c) g z) (machineIn page state [])
 
   -- ---- and a good state has its length
 
-  restored-size : {b : Board} → H (systemOf b) → (left : List ℕ) → RecoverCall p ws (b .chip) (b .state) left 0 → length left ≡ stateSize
+  restored-size : {b : Board} → H (systemOf page b) → (left : List ℕ) → RecoverCall page p ws (b .chip) (b .state) left 0 → length left ≡ stateSize
   restored-size {b} h left x =
       let r = x .outcome in
-      let g : H (list.restored (systemOf b) r) = list.recovers h (setsIn ws) refl r (x .recovers (accepted-size x)) (accepted-restored x) in
+      let g : H (list.restored (systemOf page b) r) = list.recovers h (setsIn ws) refl r (x .recovers (accepted-size x)) (accepted-restored x) in
       ap length (x .left) ∙ bytes-size (held g .inv refl)
 
-  sized : {b : Board} → Calls p ws ρ n b → b .good ≡ true → length (b .state) ≡ stateSize
+  sized : {b : Board} → Calls page p ws ρ n b → b .good ≡ true → length (b .state) ≡ stateSize
   sized (begins state) g = clash false g refl
-  sized (refused-recovery {b} c q vs chip state left result x z own same) g = ap length (kept own (recovery-kept x z) same) ∙ sized c g
+  sized (refused-recovery {b} c kind q vs chip state left result x z own same) g = ap length (kept own (recovery-kept x z) same) ∙ sized c g
   sized (refused-run {b} c l z own-state own-chip same-state same-chip) g =
       ap length (kept own-state (ap (λ (o : RunLeft). o .state) (run-kept l z)) same-state) ∙ sized c g
   sized (recovers c left x) g = restored-size (history c) left x
@@ -231,22 +239,22 @@ module _ (p : List ℕ) (plan : Plan p) (ws : List ℕ) (found : Found p ws) (ρ
   -- ---- what the entries answer
 
   -- the claim of the system that the bytes hold
-  claims : {b : Board} → Calls p ws ρ n b → Claim p ρ zeros n 0 Words (systemOf b)
-  claims c = claim p ρ zeros plan n 0 (Erased n) Words (erased-taken p ρ n) safe (history c)
+  claims : {b : Board} → Calls page p ws ρ n b → Claim p ρ zeros n 0 Words page (systemOf page b)
+  claims c = claim p ρ zeros plan page n 0 (Erased n) Words (erased-taken p ρ page n) safe (history c)
 
   -- ---- a chain of calls
 
   -- where it leads: to a good board on the list, by a chain of the systems, whose last answer stands in what the last run left
   record Led (k : ℕ) (b : Board) (j : ℕ) (o : RunLeft) (b′ : Board) : Type 0 where
-    pub calls : Calls p ws ρ n b′
+    pub calls : Calls page p ws ρ n b′
     pub good : b′ .good ≡ true
     pub answer : Ended
-    pub chain : Chain p ρ zeros n 0 Words k (systemOf b) j answer (systemOf b′)
+    pub chain : Chain p ρ zeros n 0 Words k (systemOf page b) j answer (systemOf page b′)
     pub result : o .result ≡ 0
     pub kind : getD (o .numbers) 0 0 ≡ getD (answerOf answer .values) 0 0
 
-  led-run : (k : ℕ) (b b′ : Board) (j : ℕ) → Calls p ws ρ n b′ → b′ .good ≡ true → (l : RunLent) (x : Lends p ws ρ n b′ l)
-      → Chain p ρ zeros n 0 Words k (systemOf b) j (made l x .ended) (list.ran p ρ (systemOf b′) (request l x))
+  led-run : (k : ℕ) (b b′ : Board) (j : ℕ) → Calls page p ws ρ n b′ → b′ .good ≡ true → (l : RunLent) (x : Lends page p ws ρ n b′ l)
+      → Chain p ρ zeros n 0 Words k (systemOf page b) j (made l x .ended) (list.ran p ρ (systemOf page b′) (request l x))
       → Led k b j (runCallOf l) (ran b′ l (runCallOf l))
   led-run k b b′ j c g l x h =
       let z = result l x (history c) g (sized c g) in
@@ -254,18 +262,18 @@ module _ (p : List ℕ) (plan : Plan p) (ws : List ℕ) (found : Found p ws) (ρ
         calls = runs c g l x z;
         good = g;
         answer = made l x .ended;
-        chain = subst (Chain p ρ zeros n 0 Words k (systemOf b) j (made l x .ended)) (sym (went-same l x (history c) g z)) h;
+        chain = subst (Chain p ρ zeros n 0 Words k (systemOf page b) j (made l x .ended)) (sym (went-same l x (history c) g z)) h;
         result = z;
         kind = kind-is l x (history c) g z;
       }
 
-  led : {k : ℕ} {b : Board} {j : ℕ} {o : RunLeft} {b′ : Board} → Calls p ws ρ n b → b .good ≡ true → calls.Chain p ws ρ n k b j o b′ → Led k b j o b′
+  led : {k : ℕ} {b : Board} {j : ℕ} {o : RunLeft} {b′ : Board} → Calls page p ws ρ n b → b .good ≡ true → calls.Chain page p ws ρ n k b j o b′ → Led k b j o b′
   led {k} {b} c g (calls.one l j e) =
       led-run k b b j c g l (e .0) (one (request l (e .0)) j (suffices l (e .0) (e .1)))
   led {k} {b} c g (calls.more {i} {o} {b′} h l j e) =
       let d = led c g h in
       led-run k b b′ (i + j) (d .calls) (d .good) l (e .0) (more (d .chain) (request l (e .0)) j (suffices l (e .0) (e .1)))
-  led {k} {b} {j} {o} c g (calls.beside-recovery {b′ = b′} h q vs chip state left result x z own same) =
+  led {k} {b} {j} {o} c g (calls.beside-recovery {b′ = b′} h kind q vs chip state left result x z own same) =
       let st = kept own (recovery-kept x z) same in
       subst (Led k b j o) (λ i. holding b′ (sym st i) (b′ .chip)) (led c g h)
   led {k} {b} {j} {o} c g (calls.beside-run {b′ = b′} h l z own-state own-chip same-state same-chip) =
@@ -275,13 +283,13 @@ module _ (p : List ℕ) (plan : Plan p) (ws : List ℕ) (found : Found p ws) (ρ
       subst (Led k b j o) (λ i. holding b′ (sym st i) (sym ch i)) (led c g h)
 
   -- its last run answers the stop
-  reaches : {b : Board} → Calls p ws ρ n b → b .good ≡ true → (k : ℕ) → ¬ (refAt p ρ zeros k .stop ≡ 0) → (j : ℕ) (o : RunLeft) (b′ : Board)
-      → calls.Chain p ws ρ n k b j o b′ → k + 2 * n ≤ j → (o .result ≡ 0) × (getD (o .numbers) 0 0 ≡ refAt p ρ zeros k .stop)
+  reaches : {b : Board} → Calls page p ws ρ n b → b .good ≡ true → (k : ℕ) → ¬ (refAt p ρ zeros k .stop ≡ 0) → (j : ℕ) (o : RunLeft) (b′ : Board)
+      → calls.Chain page p ws ρ n k b j o b′ → k + 2 * n ≤ j → (o .result ≡ 0) × (getD (o .numbers) 0 0 ≡ refAt p ρ zeros k .stop)
   reaches c g k z j o b′ h m =
       let d = led c g h in
-      (d .result, d .kind ∙ ap (λ (x : Ended). getD (answerOf x .values) 0 0) (claims c .stops g k z j (d .answer) (systemOf b′) (d .chain) m))
+      (d .result, d .kind ∙ ap (λ (x : Ended). getD (answerOf x .values) 0 0) (claims c .stops g k z j (d .answer) (systemOf page b′) (d .chain) m))
 
-  answers : {b : Board} → Calls p ws ρ n b → Answers p ws ρ n b
+  answers : {b : Board} → Calls page p ws ρ n b → Answers page p ws ρ n b
   answers {b} c =
       record {
         size = sized c;
@@ -302,16 +310,16 @@ module _ (p : List ℕ) (plan : Plan p) (ws : List ℕ) (found : Found p ws) (ρ
         not-damaged =
             λ state left result x e.
             bool-cases (eqb (length state) stateSize)
-            (λ s. claims c .not-damaged (setsIn ws) refl (machineIn state (b .chip)) refl (x .outcome) (x .recovers (eqb-true _ _ s))
+            (λ s. claims c .not-damaged (setsIn ws) refl (machineIn page state (b .chip)) refl (x .outcome) (x .recovers (eqb-true _ _ s))
             (refused-number (x .outcome .answer) 12 (λ z. omega arith) (sym (rw s at (x .number)) ∙ e)))
             (λ s. odd-number p ws (ap numberOf (plan .legal .accepted)) (sym (rw s at (x .number)) ∙ e));
         restores =
             λ most state left result size x.
             rw (eq-eqb (length state) stateSize size) at (x .number)
             ∙ ap (λ (a : Recovered). recovery.answerOf a .number)
-            (claims c .taken-up most (setsIn ws) refl (machineIn state (b .chip)) refl (x .outcome) (x .recovers size));
+            (claims c .taken-up most (setsIn ws) refl (machineIn page state (b .chip)) refl (x .outcome) (x .recovers size));
       }
 
--- DEMAND 3
-pub demand-3 : Demand3
-demand-3 p plan ws found ρ n b c = (claims p plan ws found ρ n c, answers p plan ws found ρ n c)
+-- DEMAND 3, for every page length
+pub demand-3 : (page : ℕ) → Demand3 page
+demand-3 page p plan ws found ρ n b c = (claims page p plan ws found ρ n c, answers page p plan ws found ρ n c)

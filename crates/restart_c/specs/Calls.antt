@@ -8,6 +8,7 @@ use mathlib.Core.List.{List, [], _++_}
 use mathlib.Core.Logic.{_⊎_}
 use lib.IntN.{ℤ}
 use lib.ListN.{length, getD, take, drop, replicate}
+use Rattle.journal.specs.Format.{chipLength}
 use Rattle.run.specs.Run.{started}
 use Rattle.step.specs.State.{envOf}
 use Rattle.layout.specs.Numbers.{signedOf}
@@ -29,8 +30,8 @@ pub record Board : Type 0 where
   pub steps : ℕ
 
 -- the system that the bytes hold
-abbrev pub systemOf : Board → System
-systemOf b = record { machine = machineIn (b .state) (b .chip); good = b .good; tally = b .tally; outputs = b .outputs; steps = b .steps }
+abbrev pub systemOf : (page : ℕ) → Board → System
+systemOf page b = record { machine = machineIn page (b .state) (b .chip); good = b .good; tally = b .tally; outputs = b .outputs; steps = b .steps }
 
 -- before any call
 abbrev pub fresh : (n : ℕ) → List ℕ → Board
@@ -58,7 +59,7 @@ holding b state chip = record { state = state; chip = chip; good = b .good; tall
 -- the numbered outputs that a run wrote: "An output's number is not among the outputs' bytes: the first output of a call has the number that the state held .. before the
 -- call, and each next one more"
 abbrev pub wrote : RunLent → RunLeft → List Numbered
-wrote l o = numberedFrom (machineIn (l .state) (l .chip) .regs .outputs) (take (getD (o .numbers) 3 0) (signedOf (o .outputs)))
+wrote l o = numberedFrom (machineIn (l .page) (l .state) (l .chip) .regs .outputs) (take (getD (o .numbers) 3 0) (signedOf (o .outputs)))
 
 -- after an accepted run that left o: its steps are the second of its numbers
 abbrev pub ran : Board → RunLent → RunLeft → Board
@@ -68,34 +69,36 @@ ran b l o =
       chip = o .chip;
       good = b .good;
       tally =
-          talliedOver (envOf (l .plan) (setsIn (l .sets))) (signedOf (l .readings)) (getD (o .numbers) 1 0) (started (machineIn (l .state) (l .chip)))
+          talliedOver (envOf (l .plan) (setsIn (l .sets))) (signedOf (l .readings)) (getD (o .numbers) 1 0) (started (machineIn (l .page) (l .state) (l .chip)))
           (b .tally);
       outputs = b .outputs ++ wrote l o;
       steps = b .steps + getD (o .numbers) 1 0;
     }
 
-module _ (p ws : List ℕ) (ρ : List ℤ) (n : ℕ) where
+-- page is how many bytes the chip stores as a unit: "the accepted calls of a list are all for one kind"
+module _ (page : ℕ) (p ws : List ℕ) (ρ : List ℤ) (n : ℕ) where
   -- an accepted run is lent the plan, its sets, and the state and the chip as last left; its readings are a beginning of those from the next untaken one on
   pub record Lends (b : Board) (l : RunLent) : Type 0 where
+    pub kind : l .page ≡ page
     pub plan : l .plan ≡ p
     pub sets : l .sets ≡ ws
     pub chip : l .chip ≡ b .chip
     pub state : l .state ≡ b .state
     pub count : ℕ
-    pub readings : signedOf (l .readings) ≡ take count (drop (machineIn (b .state) (b .chip) .regs .readings) ρ)
+    pub readings : signedOf (l .readings) ≡ take count (drop (machineIn page (b .state) (b .chip) .regs .readings) ρ)
 
   pub data Calls : Board → Type 0 where
     -- "begins on an erased chip with any state"
     begins : (state : List ℕ) → Calls (fresh n state)
-    -- a refused call of any content, which is lent the list's state (own) or another one
-    refused-recovery : {b : Board} → Calls b → (q vs chip state left : List ℕ) (result : ℕ) → RecoverCall q vs chip state left result → ¬ (result ≡ 0)
+    -- a refused call of any content and of either kind, which is lent the list's state (own) or another one
+    refused-recovery : {b : Board} → Calls b → (kind : ℕ) (q vs chip state left : List ℕ) (result : ℕ) → RecoverCall kind q vs chip state left result → ¬ (result ≡ 0)
         → (own : Bool) → (own ≡ true → state ≡ b .state)
         → Calls (holding b (cond own left (b .state)) (b .chip))
     refused-run : {b : Board} → Calls b → (l : RunLent) → ¬ (runCallOf l .result ≡ 0) → (own-state own-chip : Bool) → (own-state ≡ true → l .state ≡ b .state)
         → (own-chip ≡ true → l .chip ≡ b .chip)
         → Calls (holding b (cond own-state (runCallOf l .state) (b .state)) (cond own-chip (runCallOf l .chip) (b .chip)))
     -- an accepted recovery
-    recovers : {b : Board} → Calls b → (left : List ℕ) → RecoverCall p ws (b .chip) (b .state) left 0 → Calls (restored b left)
+    recovers : {b : Board} → Calls b → (left : List ℕ) → RecoverCall page p ws (b .chip) (b .state) left 0 → Calls (restored b left)
     -- a cut, in a recovery call too: "the state may hold anything"
     crashes : {b : Board} → Calls b → (state : List ℕ) → Calls (crashed b state)
     -- an accepted run, and one that is cut: "It ends a run as a budget of the steps done would"
@@ -106,15 +109,15 @@ module _ (p ws : List ℕ) (ρ : List ℤ) (n : ℕ) where
   -- a run of the list that is equipped for j of its steps (crate `restart`): of readings and places it is lent as many as their bytes hold
   abbrev pub Suffices : (k : ℕ) → Board → RunLent → (j : ℕ) → Type 0
   Suffices k b l j =
-      Lends b l × Equipped p ρ zeros k (machineIn (b .state) (b .chip) .regs) (l .budget) (length (signedOf (l .readings))) (length (signedOf (l .outputs))) j
+      Lends b l × Equipped p ρ zeros k (machineIn page (b .state) (b .chip) .regs) (l .budget) (length (signedOf (l .readings))) (length (signedOf (l .outputs))) j
 
   -- such runs one after the other, with no recovery between, refused calls of any content among them; the steps that they are equipped for in all, and what the last run left
   pub data Chain (k : ℕ) (b : Board) : (steps : ℕ) → RunLeft → Board → Type 0 where
     one : (l : RunLent) (j : ℕ) → Suffices k b l j → Chain k b j (runCallOf l) (ran b l (runCallOf l))
     more : {i : ℕ} {o : RunLeft} {b′ : Board} → Chain k b i o b′ → (l : RunLent) (j : ℕ) → Suffices k b′ l j
         → Chain k b (i + j) (runCallOf l) (ran b′ l (runCallOf l))
-    beside-recovery : {i : ℕ} {o : RunLeft} {b′ : Board} → Chain k b i o b′ → (q vs chip state left : List ℕ) (result : ℕ)
-        → RecoverCall q vs chip state left result → ¬ (result ≡ 0) → (own : Bool) → (own ≡ true → state ≡ b′ .state)
+    beside-recovery : {i : ℕ} {o : RunLeft} {b′ : Board} → Chain k b i o b′ → (kind : ℕ) (q vs chip state left : List ℕ) (result : ℕ)
+        → RecoverCall kind q vs chip state left result → ¬ (result ≡ 0) → (own : Bool) → (own ≡ true → state ≡ b′ .state)
         → Chain k b i o (holding b′ (cond own left (b′ .state)) (b′ .chip))
     beside-run : {i : ℕ} {o : RunLeft} {b′ : Board} → Chain k b i o b′ → (l : RunLent) → ¬ (runCallOf l .result ≡ 0) → (own-state own-chip : Bool)
         → (own-state ≡ true → l .state ≡ b′ .state) → (own-chip ≡ true → l .chip ≡ b′ .chip)
@@ -128,33 +131,34 @@ pub record Found (p ws : List ℕ) : Type 0 where
   pub call : AnalyseCall p dead-lent lent dead ws 0
 
 -- what the entries answer, in their own numbers
-pub record Answers (p ws : List ℕ) (ρ : List ℤ) (n : ℕ) (b : Board) : Type 0 where
+pub record Answers (page : ℕ) (p ws : List ℕ) (ρ : List ℤ) (n : ℕ) (b : Board) : Type 0 where
   -- a good state has its length
   pub size : b .good ≡ true → length (b .state) ≡ stateSize
   -- "a run never gives 10 on a state that an accepted call left and no cut has since spoiled": it is never refused
-  pub runs : b .good ≡ true → (l : RunLent) → Lends p ws ρ n b l → runCallOf l .result ≡ 0
+  pub runs : b .good ≡ true → (l : RunLent) → Lends page p ws ρ n b l → runCallOf l .result ≡ 0
   -- "Each accepted run, cut or not, takes the readings and writes the outputs, numbers and order included, that the uncut run has between the tallies before and after
   -- it": taken and given are the third and the fourth of its numbers
-  pub takes : b .good ≡ true → (l : RunLent) → Lends p ws ρ n b l → let o = runCallOf l in let t = taken p ρ zeros (b .tally .retired) (ran b l o .tally .retired) in
+  pub takes : b .good ≡ true → (l : RunLent) → Lends page p ws ρ n b l → let o = runCallOf l in let t = taken p ρ zeros (b .tally .retired) (ran b l o .tally .retired) in
       (getD (o .numbers) 2 0 ≡ length t)
-      × (numberedFrom (machineIn (b .state) (b .chip) .regs .readings) (take (getD (o .numbers) 2 0) (signedOf (l .readings))) ≡ t)
-  pub writes : b .good ≡ true → (l : RunLent) → Lends p ws ρ n b l → let o = runCallOf l in let t = emitted p ρ zeros (b .tally .retired) (ran b l o .tally .retired) in
+      × (numberedFrom (machineIn page (b .state) (b .chip) .regs .readings) (take (getD (o .numbers) 2 0) (signedOf (l .readings))) ≡ t)
+  pub writes : b .good ≡ true → (l : RunLent) → Lends page p ws ρ n b l → let o = runCallOf l in let t = emitted p ρ zeros (b .tally .retired) (ran b l o .tally .retired) in
       (getD (o .numbers) 3 0 ≡ length t) × (wrote l o ≡ t)
   -- steps, the second of its numbers, is at most the budget; "at most n plus twice the chip's length steps follow an accepted recovery before the next"
-  pub steps : b .good ≡ true → (l : RunLent) → Lends p ws ρ n b l → let o = runCallOf l in
+  pub steps : b .good ≡ true → (l : RunLent) → Lends page p ws ρ n b l → let o = runCallOf l in
       (getD (o .numbers) 1 0 ≤ l .budget) × ((k : ℕ) → ¬ (refAt p ρ zeros k .stop ≡ 0) → b .steps + getD (o .numbers) 1 0 ≤ k + 2 * n)
   -- "so accepted runs given budget, readings and room, with no recovery between, reach that stop": the first of the last run's numbers, ended, is its kind
-  pub stops : b .good ≡ true → (k : ℕ) → ¬ (refAt p ρ zeros k .stop ≡ 0) → (j : ℕ) (o : RunLeft) (b′ : Board) → Chain p ws ρ n k b j o b′ → k + 2 * n ≤ j
+  pub stops : b .good ≡ true → (k : ℕ) → ¬ (refAt p ρ zeros k .stop ≡ 0) → (j : ℕ) (o : RunLeft) (b′ : Board) → Chain page p ws ρ n k b j o b′ → k + 2 * n ≤ j
       → (o .result ≡ 0) × (getD (o .numbers) 0 0 ≡ refAt p ρ zeros k .stop)
   -- on the way there a run that is equipped for its whole budget spends it: ended is 4, or that kind
-  pub spends : b .good ≡ true → (k : ℕ) → ¬ (refAt p ρ zeros k .stop ≡ 0) → (l : RunLent) → Suffices p ws ρ n k b l (l .budget)
+  pub spends : b .good ≡ true → (k : ℕ) → ¬ (refAt p ρ zeros k .stop ≡ 0) → (l : RunLent) → Suffices page p ws ρ n k b l (l .budget)
       → let x = getD (runCallOf l .numbers) 0 0 in (x ≡ 4) ⊎ (x ≡ refAt p ρ zeros k .stop)
-  -- "recovery never gives 12", whatever state it is lent; one of the right length is restored, unless the chip is too long
-  pub not-damaged : (state left : List ℕ) (result : ℕ) → RecoverCall p ws (b .chip) state left result → ¬ (result ≡ 12)
-  pub restores : n ≤ 65536 → (state left : List ℕ) (result : ℕ) → length state ≡ stateSize → RecoverCall p ws (b .chip) state left result → result ≡ 0
+  -- "recovery never gives 12", whatever state it is lent; one of the right length is restored, unless no chip of the kind has that length
+  pub not-damaged : (state left : List ℕ) (result : ℕ) → RecoverCall page p ws (b .chip) state left result → ¬ (result ≡ 12)
+  pub restores : chipLength page n ≡ true → (state left : List ℕ) (result : ℕ) → length state ≡ stateSize → RecoverCall page p ws (b .chip) state left result → result ≡ 0
 
--- demand 3 of the C calls: for every list of calls, the claim of the system that the bytes hold, and what the entries answer
-abbrev pub Demand3 : Type 0
-Demand3 =
-    (p : List ℕ) → Plan p → (ws : List ℕ) → Found p ws → (ρ : List ℤ) (n : ℕ) (b : Board) → Calls p ws ρ n b
-    → Claim p ρ zeros n 0 (λ w. w ≡ setsIn ws) (systemOf b) × Answers p ws ρ n b
+-- demand 3 of the C calls for chips with pages of so many bytes: for every list of calls, the claim of the system that the bytes hold, and what the entries answer. `Demand3 1`
+-- is that of pitskelo_recover and pitskelo_run, and `Demand3 16` that of pitskelo_page_recover and pitskelo_page_run
+abbrev pub Demand3 : (page : ℕ) → Type 0
+Demand3 page =
+    (p : List ℕ) → Plan p → (ws : List ℕ) → Found p ws → (ρ : List ℤ) (n : ℕ) (b : Board) → Calls page p ws ρ n b
+    → Claim p ρ zeros n 0 (λ w. w ≡ setsIn ws) page (systemOf page b) × Answers page p ws ρ n b

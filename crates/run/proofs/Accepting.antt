@@ -15,7 +15,9 @@ use Rattle.program.specs.declared.Checked.{Checked}
 use Rattle.program.specs.declared.Checked.the-variants as checked
 use Rattle.program.proofs.Grounds.{ruled, accepted-values}
 use Rattle.program.proofs.Tests.{bool-cases}
+use Rattle.journal.proofs.Paging.{is-chip-length}
 use Rattle.step.specs.State.{Env, Machine}
+use Rattle.step.proofs.Facts.{good-length}
 use Rattle.run.specs.Run.{Call, lateRefusal, refusalOf, runOf}
 use Rattle.step.specs.Ready.{Legal, Good}
 use Rattle.run.proofs.Laws.{good-run}
@@ -32,7 +34,7 @@ pub record Accepts (e : Env) (m : Machine) : Type 0 where
 pub not-refused : {e : Env} {m : Machine} → Accepts e m → refusalOf e m ≡ 0
 unfolding refusalOf lateRefusal
 not-refused {e} {m} a =
-    rw (a .legal .accepted, le-ltb (length (e .sets)) 512 (a .words), a .good .sound, le-ltb 65536 (length (m .journal)) (a .good .most))
+    rw (a .legal .accepted, le-ltb (length (e .sets)) 512 (a .words), a .good .sound, is-chip-length (good-length (a .good)))
 
 -- check's answer with the number 0 is that of an accepted program
 number-legal : (p : List ℕ) (r : Checked) → r ≡ checkOf p → numberOf r ≡ 0 → Legal p
@@ -49,7 +51,7 @@ accepts e m h xs ms =
     record {
       legal = number-legal (e .program) (checkOf (e .program)) refl (eqb-true _ _ b);
       words = l .0;
-      good = record { sound = l .1; most = l .2; cells = xs; marks = ms };
+      good = record { sound = l .1; most = l .2 .most; whole = l .2 .whole; cells = xs; marks = ms };
     })
     (λ b. absurd (eqb-false _ _ b (rw b at h)))
 

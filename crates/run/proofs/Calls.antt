@@ -18,6 +18,8 @@ use Rattle.program.proofs.Grounds.{accepted-values}
 use Rattle.program.proofs.Tests.{bool-cases}
 use Rattle.run.specs.declared.Ended.{Ended}
 use Rattle.run.specs.declared.Pass.{Pass}
+use Rattle.journal.specs.Format.{chipLength}
+use Rattle.journal.proofs.Paging.{ChipLength, chip-length}
 use Rattle.step.specs.State.{envOf, Machine, machineOf, soundOf}
 use Rattle.run.specs.Run.{lateRefusal, refusalOf, outcome, outcomeOf, refusedWith, runOf, callOf, started}
 use Rattle.step.specs.Ready.{Legal, Ready, Good}
@@ -41,24 +43,24 @@ module _ (p : List ℕ) (words : ℕ) (m : Machine) where
     unfolding lateRefusal
     late-state s = rw (le-ltb _ _ a, ← is, s)
 
-    pub late-chip : not b ≡ false → 65536 < length (m .journal) → 11 ≡ lateRefusal p words m
+    pub late-chip : not b ≡ false → chipLength (m .regs .page) (length (m .journal)) ≡ false → 11 ≡ lateRefusal p words m
     unfolding lateRefusal
-    late-chip s d = rw (le-ltb _ _ a, ← is, s, lt-ltb _ _ d)
+    late-chip s d = rw (le-ltb _ _ a, ← is, s, d)
 
-    pub late-none : not b ≡ false → length (m .journal) ≤ 65536 → 0 ≡ lateRefusal p words m
+    pub late-none : not b ≡ false → chipLength (m .regs .page) (length (m .journal)) ≡ true → 0 ≡ lateRefusal p words m
     unfolding lateRefusal
-    late-none s d = rw (le-ltb _ _ a, ← is, s, le-ltb _ _ d)
+    late-none s d = rw (le-ltb _ _ a, ← is, s, d)
 
   -- none of them
-  pub late-left : 0 ≡ lateRefusal p words m → (512 ≤ words) × (soundOf p m ≡ true) × (length (m .journal) ≤ 65536)
+  pub late-left : 0 ≡ lateRefusal p words m → (512 ≤ words) × (soundOf p m ≡ true) × ChipLength (m .regs .page) (length (m .journal))
   unfolding lateRefusal
   late-left h =
       bool-cases (ltb words 512)
       (λ a. let z = rw a at h in absurd (omega arith))
       (λ a. bool-cases (soundOf p m)
-      (λ b. bool-cases (ltb 65536 (length (m .journal)))
-      (λ d. let z = rw (a, b, d) at h in absurd (omega arith))
-      (λ d. (ltb-false _ _ a, b, ltb-false _ _ d)))
+      (λ b. bool-cases (chipLength (m .regs .page) (length (m .journal)))
+      (λ d. (ltb-false _ _ a, b, chip-length _ _ d))
+      (λ d. let z = rw (a, b, d) at h in absurd (omega arith)))
       (λ b. let z = rw (a, b) at h in absurd (omega arith)))
 
 -- ---- the outputs
@@ -126,5 +128,5 @@ module _ (p ws : List ℕ) (m : Machine) where
   ready h t k z xs ms =
       let a = late-left p (length ws) m (sym z ∙ k) in (
         record { cells = h .cells; instructions = h .instructions; excludes = h .excludes; accepted = h .accepted; places = t; words = a .0 },
-        record { sound = a .1; most = a .2; cells = xs; marks = ms },
+        record { sound = a .1; most = a .2 .most; whole = a .2 .whole; cells = xs; marks = ms },
       )

@@ -21,8 +21,8 @@ use Rattle.run.specs.declared.Ended.the-variants.{Stopped, Spent, NoRead
 use Rattle.step.specs.State.{Env, Machine}
 use Rattle.step.specs.Step.{stepOf, executedOf, effectAt, dueOpcode, givenBy, takenBy, givenOf, takenOf}
 use Rattle.step.specs.Ready.{Ready, Good}
-use Rattle.run.specs.Run.{Call, Finish, exitBefore, stepped, runOf, started}
-use Rattle.step.proofs.Keeping.{good-step}
+use Rattle.run.specs.Run.{Call, Finish, exitBefore, stepped, runOf, started, refusalOf, callOf}
+use Rattle.step.proofs.Keeping.{step-page, good-step}
 
 -- ---- the four exits
 
@@ -248,6 +248,14 @@ module _ (e : Env) (ρ : List ℤ) (room : ℕ) where
       (λ left c x h k. rw (run-ends left c h) k)
       (λ left c g h k. rw (makes-step left c (exit-none g)) (h (good-step (getD ρ (c .taken) (pos 0)) r k (g .runs))))
 
+  -- it keeps to the kind of chip
+  pub page-run : (left : ℕ) (c : Call) → runOf e ρ room left c .call .machine .regs .page ≡ c .machine .regs .page
+  unfolding stepped
+  page-run =
+      run-ind (λ left c. runOf e ρ room left c .call .machine .regs .page ≡ c .machine .regs .page)
+      (λ left c x h. rw (run-ends left c h))
+      (λ left c g h. rw (makes-step left c (exit-none g)) (h ∙ step-page e (getD ρ (c .taken) (pos 0)) (c .machine)))
+
   -- and all of it where it is spent
   pub spent-all : (left : ℕ) (c : Call) → runOf e ρ room left c .ended ≡ Spent → runOf e ρ room left c .call .steps ≡ c .steps + left
   unfolding stepped
@@ -255,6 +263,11 @@ module _ (e : Env) (ρ : List ℤ) (room : ℕ) where
       run-ind (λ left c. runOf e ρ room left c .ended ≡ Spent → runOf e ρ room left c .call .steps ≡ c .steps + left)
       (λ left c x h s. rw (run-ends left c h) (omega (arith, spent-only h (rw (run-ends left c h) at s))))
       (λ left c g h s. let n = makes-step left c (exit-none g) in rw n (omega (arith, h (rw n at s))))
+
+-- so does a call
+pub page-call : (e : Env) (ρ : List ℤ) (budget : ℕ) (m : Machine) (outs : List ℤ) → callOf e ρ budget m outs .machine .regs .page ≡ m .regs .page
+unfolding callOf
+page-call e ρ budget m outs = bool-cases (eqb (refusalOf e m) 0) (λ b. rw b (page-run e ρ (length outs) budget (started m))) (λ b. rw b)
 
 -- ---- runs in parts
 

@@ -1,8 +1,8 @@
 -- A call's answer is the one that document 01's grounds allow.
 -- Assumes nothing.
-use Prim.Native.Nat.{ℕ, _-_, _≤_, _<_}
+use Prim.Native.Nat.{ℕ, _-_, _<_}
 use mathlib.Core.Path.{_≡_, sym, subst}
-use mathlib.Core.Bool.{true, false}
+use mathlib.Core.Bool.{true}
 use mathlib.Core.List.{List}
 use native.Mathlib.Omega.{arith}
 use lib.Dec.{eqb, ltb}
@@ -13,6 +13,7 @@ use Rattle.program.specs.Check.{checkOf, numberOf}
 use Rattle.program.specs.Grounds.{Allowed, granted, denied}
 use Rattle.program.proofs.Grounds.{plan-passes, plan-refuses, by-check, by-words, by-own}
 use Rattle.program.proofs.Tests.{bool-cases, clash}
+use Rattle.journal.specs.Format.{chipLength}
 use Rattle.step.specs.State.{Env, Machine, soundOf}
 use Rattle.run.specs.declared.Ended.{Ended}
 use Rattle.run.specs.Run as run
@@ -32,10 +33,10 @@ module _ {p : List ℕ} {m : Machine} where
   sound-first s n l (state h) = clash (soundOf p m) s h
   sound-first s n l (size h) = omega arith
 
-  -- nor is a chip that is not too long
-  no-late : soundOf p m ≡ true → length (m .journal) ≤ 65536 → (n : ℕ) → ¬ LateGround p m n
+  -- nor is a chip's length that it may have
+  no-late : soundOf p m ≡ true → chipLength (m .regs .page) (length (m .journal)) ≡ true → (n : ℕ) → ¬ LateGround p m n
   no-late s l n (state h) = clash (soundOf p m) s h
-  no-late s l n (size h) = omega arith
+  no-late s l n (size h) = clash (chipLength (m .regs .page) (length (m .journal))) l h
 
 -- ---- the endings
 
@@ -63,9 +64,9 @@ module _ (e : Env) (ρ : List ℤ) (budget : ℕ) (m : Machine) (outs : List ℤ
       (λ b. rw (a, b) (by-words late-after (plan-passes _ (eqb-true _ _ a)) (ltb-true _ _ b)))
       (λ b. rw (a, b) (by-own late-after (plan-passes _ (eqb-true _ _ a)) (λ l. omega (arith, ltb-false (length (e .sets)) 512 b))
       (bool-cases (soundOf (e .program) m)
-      (λ c. bool-cases (ltb 65536 (length (m .journal)))
-      (λ d. rw (c, d) (denied (size (ltb-true _ _ d)) (sound-first c)))
-      (λ d. rw (c, d) (exit-ruled budget (no-late c (ltb-false _ _ d)) left-is (run-exit e ρ (length outs) budget (started m)))))
+      (λ c. bool-cases (chipLength (m .regs .page) (length (m .journal)))
+      (λ d. rw (c, d) (exit-ruled budget (no-late c d) left-is (run-exit e ρ (length outs) budget (started m))))
+      (λ d. rw (c, d) (denied (size d) (sound-first c))))
       (λ c. rw c (denied (state c) (λ n l g. omega (arith, late-after n g))))))))
       (λ a. rw (a, a) (by-check late-after (plan-refuses _ (eqb-false _ _ a))))
     where

@@ -248,7 +248,7 @@ performed-moves e saves k a false m t = still refl refl
 stored-moves : (p : List ℕ) (k a : ℕ) (m : Machine) → Moves k a m (storedOf p m) 0 []
 unfolding storedOf
 stored-moves p k a m =
-    bool-cases (eqb (m .regs .saving) (sizeAt p m)) (λ t. rw t (still refl refl)) (λ t. rw t (still refl refl))
+    bool-cases (eqb (m .regs .saving - 1 + m .regs .page) (sizeAt p m)) (λ t. rw t (still refl refl)) (λ t. rw t (still refl refl))
 
 erased-moves : (k a : ℕ) (m : Machine) → Moves k a m (erasedOf m) 0 []
 unfolding erasedOf
@@ -268,14 +268,14 @@ step-moves e v m =
 -- ---- where a sound state stands
 
 -- the second of the conjuncts of `soundOf`
-second : (a b c d f g : Bool) → (a && b && c && d && f && g) ≡ true → b ≡ true
-second true true c d f g h = refl
-second true false c d f g h = h
-second false b c d f g h = clash false h refl
+second : (a b c d f g k : Bool) → (a && b && c && d && f && g && k) ≡ true → b ≡ true
+second true true c d f g k h = refl
+second true false c d f g k h = h
+second false b c d f g k h = clash false h refl
 
 pub sound-start : (p : List ℕ) (m : Machine) → soundOf p m ≡ true → isStart p (m .regs .pc) ≡ true
 unfolding soundOf
-sound-start p m h = second (kindsSound m) (isStart p (m .regs .pc)) _ _ _ _ h
+sound-start p m h = second (kindsSound m) (isStart p (m .regs .pc)) _ _ _ _ _ h
 
 pub legal-of : {e : Env} {table : List ℕ} → Ready e table → Legal (e .program)
 legal-of r = record { cells = r .cells; instructions = r .instructions; excludes = r .excludes; accepted = r .accepted }

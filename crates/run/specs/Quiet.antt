@@ -40,6 +40,7 @@ regsAt r f =
       write = r .write;
       erase = r .erase;
       saving = r .saving;
+      page = r .page;
     }
 
 -- where the run stands; the outputs given are the first of the buffer

@@ -13,6 +13,7 @@ use Rattle.program.specs.Check.{Answer, numberOf, checkOf}
 use Rattle.program.specs.Grounds.{Allowed, CallGround}
 use Rattle.run.specs.declared.Ended.{Ended}
 use Rattle.run.specs.declared.Ended.the-variants.{Refused, Stopped, Spent, NoReading, BufferFull}
+use Rattle.journal.specs.Format.{chipLength}
 use Rattle.step.specs.State.{Env, Machine, soundOf}
 use Rattle.step.specs.Step.{stepOf, dueOpcode, givenOf, takenOf}
 
@@ -64,13 +65,13 @@ runOf e ρ room (suc left) c = finishBy (exitBefore (e .program) (suc left) (len
 
 -- ---- a call
 
--- "Rising order": 1 to 8 of the plan, 9 the words, 10 the state, 11 the chip; 0 where it is accepted
+-- "Rising order": 1 to 8 of the plan, 9 the words, 10 the state, 11 the chip's length; 0 where it is accepted
 unfoldable pub lateRefusal : List ℕ → (words : ℕ) → Machine → ℕ
 lateRefusal p words m =
     cond (ltb words 512) 9
     (cond (not (soundOf p m)) 10
-    (cond (ltb 65536 (length (m .journal))) 11
-    0))
+    (cond (chipLength (m .regs .page) (length (m .journal))) 0
+    11))
 
 unfoldable pub refusalOf : Env → Machine → ℕ
 refusalOf e m =
@@ -118,10 +119,11 @@ answerOf Spent = record { number = 0; values = 4 ∷ [] }
 answerOf NoReading = record { number = 0; values = 5 ∷ [] }
 answerOf BufferFull = record { number = 0; values = 6 ∷ [] }
 
--- the grounds of its refusals, from the rows of document 01's table: 1 to 8 check's, 9 "a word buffer too short", 10 "state not sound", 11 "chip over 65,536 bytes"
+-- the grounds of its refusals, from the rows of document 01's table: 1 to 8 check's, 9 "a word buffer too short", 10 "state not sound", 11 "chip over 65,536 bytes" and
+-- Q-4's "length not divisible"
 pub data LateGround (p : List ℕ) (m : Machine) : ℕ → Type 0 where
   state : soundOf p m ≡ false → LateGround p m 10
-  size : 65536 < length (m .journal) → LateGround p m 11
+  size : chipLength (m .regs .page) (length (m .journal)) ≡ false → LateGround p m 11
 
 abbrev pub Ground : Env → Machine → ℕ → Type 0
 Ground e m = CallGround (e .program) (length (e .sets) < 512) (LateGround (e .program) m)

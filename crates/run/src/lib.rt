@@ -5,6 +5,7 @@ mod quiet;
 mod run;
 mod stretch;
 
+use journal::pages::is_length;
 use program::Checked;
 use program::examine;
 use program::places::blank;
@@ -100,7 +101,7 @@ fn late_refusal(
     if !sound(r, program, table, cells, marks, len) {
         return 10;
     }
-    if 65536 < len {
+    if !is_length(len, r.page) {
         return 11;
     }
     0

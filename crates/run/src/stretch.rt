@@ -1,9 +1,10 @@
-// The bytes of a save, as many at once as the budget allows: the checkpoint is made once, and not for every byte. It
+// The pages of a save, as many at once as the budget allows: the checkpoint is made once, and not for every byte. It
 // only saves time: where it does nothing, the general step goes on.
 use crate::Pass;
 use execution::after;
 use instruction::opcodes::CHECKPOINT;
 use journal::Commit;
+use journal::pages::count_pages;
 use journal::writing::image_into;
 use marks::keep;
 use marks::stored_cells;
@@ -20,8 +21,8 @@ ghost use Rattle.step.specs.Ready.{Good};
 ghost use Rattle.run.specs.Stretch.{storedRegs, StoreIs};
 
 // m bytes of the buffer, from `from` on, go to the journal, from `to` on.
-fn copy(journal: &mut [u8], to: usize, buffer: &[u8; 1550], from: usize, m: usize)
-    requires { ⌜ (to + m ≤ length (now journal)) × (from + m ≤ 1550) × (length (now buffer) ≡ 1550) × (length (now journal) ≤ 65536) ⌝ }
+fn copy(journal: &mut [u8], to: usize, buffer: &[u8; 1568], from: usize, m: usize)
+    requires { ⌜ (to + m ≤ length (now journal)) × (from + m ≤ 1568) × (length (now buffer) ≡ 1568) × (length (now journal) ≤ 65536) ⌝ }
     ensures { λ _. ⌜ now (journal .exit) ≡ sets (now (journal .entry)) to (take m (drop from (now (buffer .entry)))) ⌝ }
 {
     let mut i: usize = 0;
@@ -38,9 +39,9 @@ fn least(a: usize, b: u64) -> usize
 }
 
 // Makes the checkpoint of the present state, and gives its length.
-fn make(r: Regs, p: &[u8], cells: &[u32; 256], marks: &[u8; 256], buffer: &mut [u8; 1550]) -> usize
-    requires { ⌜ (r .pc < 2048) × (r .exclude < 2048) × (byte (now p) (r .pc) ≡ 0x0E) ⌝ }
-    ensures { λ k. ⌜ (k ≤ 1550) × ((l : List ℕ) → (k ≡ length (imageAt (now (p .entry)) (machineOf r (now (cells .entry)) (now (marks .entry)) l))) × (now (buffer .exit) ≡ sets (now (buffer .entry)) 0 (imageAt (now (p .entry)) (machineOf r (now (cells .entry)) (now (marks .entry)) l)))) ⌝ }
+fn make(r: Regs, p: &[u8], cells: &[u32; 256], marks: &[u8; 256], buffer: &mut [u8; 1568]) -> usize
+    requires { ⌜ (r .pc < 2048) × (r .exclude < 2048) × (byte (now p) (r .pc) ≡ 0x0E) × (0 < r .page) × (r .page ≤ 16) ⌝ }
+    ensures { λ k. ⌜ (k ≤ 1568) × ((l : List ℕ) → (k ≡ length (imageAt (now (p .entry)) (machineOf r (now (cells .entry)) (now (marks .entry)) l))) × (now (buffer .exit) ≡ sets (now (buffer .entry)) 0 (imageAt (now (p .entry)) (machineOf r (now (cells .entry)) (now (marks .entry)) l)))) ⌝ }
 {
     let n = cell_count(p);
     let s = stored_cells(marks, n);
@@ -50,12 +51,12 @@ fn make(r: Regs, p: &[u8], cells: &[u32; 256], marks: &[u8; 256], buffer: &mut [
         readings: r.readings,
         outputs: r.outputs,
     };
-    image_into(buffer, s, cells, commit, n)
+    image_into(buffer, s, cells, commit, n, r.page)
 }
 
 // The registers after m more bytes of a save of `total`.
 fn stored(mut r: Regs, m: usize, total: usize) -> Regs
-    requires { ⌜ (r .pc < 2048) × (0 < r .saving) × (r .saving - 1 + m ≤ total) × (total ≤ 1550) × (r .write + m ≤ 65536) ⌝ }
+    requires { ⌜ (r .pc < 2048) × (0 < r .saving) × (r .saving - 1 + m ≤ total) × (total ≤ 1568) × (r .write + m ≤ 65536) ⌝ }
     ensures { λ q. ⌜ q ≡ storedRegs r m total ⌝ }
 {
     r.write += m as u32;
@@ -87,20 +88,23 @@ pub fn store_some(
     if r.saving == 0 {
         return b;
     }
-    if budget - b.steps < 16 {
+    let page = r.page;
+    // The whole checkpoint is made for 16 bytes or more: for fewer the general step costs less.
+    if budget - b.steps < count_pages(16, page) as u64 {
         return b;
     }
-    let mut buffer = [0u8; 1550];
+    let mut buffer = [0u8; 1568];
     let total = make(r, p, cells, marks, &mut buffer);
     let from = r.saving as usize - 1;
-    let m = least(total - from, budget - b.steps);
+    let pages = least(count_pages(total - from, page), budget - b.steps);
+    let m = pages * page;
     copy(journal, r.write as usize, &buffer, from, m);
     if from + m == total {
         keep(marks, cell_count(p));
     }
     Pass {
         regs: stored(r, m, total),
-        steps: b.steps + m as u64,
+        steps: b.steps + pages as u64,
         taken: b.taken,
         written: b.written,
     }

@@ -4,7 +4,7 @@ use mathlib.Core.Path.{_≡_, refl, ap, _∙_}
 use mathlib.Core.Logic.{_⊎_, inl, inr, ⊎-elim}
 use mathlib.Core.List.{List}
 use mathlib.Core.Bool.{true, _||_, or-true}
-use Prim.Native.Nat.{ℕ, zero, suc, _+_, _-_, _≤_, _<_}
+use Prim.Native.Nat.{ℕ, zero, suc, _+_, _-_, _%_, _≤_, _<_}
 use native.Mathlib.Nat.{eq-zero-or-pos}
 use native.Mathlib.Omega.{arith}
 use lib.Dec.{eqb, ltb, leb}
@@ -14,14 +14,26 @@ use Rattle.cellset.proofs.Bits.{le-or-lt}
 use Rattle.instruction.specs.Bytes.{byte, cellsOf}
 use Rattle.program.specs.Places.{isStart, isExclude}
 use Rattle.program.proofs.Tests.{or-cases, and-both}
-use Rattle.step.specs.State.{Machine, sizeAt, zeroFrom, restClear, marksFrom, savingSound, kindsSound, soundOf}
+use Rattle.journal.specs.Format.{pagesIn}
+use Rattle.journal.proofs.Paging.{ChipLength}
+use Rattle.step.specs.State.{Machine, sizeAt, zeroFrom, restClear, marksFrom, pagesSound, savingSound, kindsSound, soundOf}
+use Rattle.step.specs.Ready.{Good}
+use Rattle.step.specs.declared.Regs.{Regs}
 
 -- while saving
 pub record SavingFacts (p : List ℕ) (m : Machine) : Type 0 where
   pub at : byte p (m .regs .pc) ≡ 0x0E
   pub nothing : m .regs .erase ≡ 0
   pub stored : m .regs .saving - 1 < sizeAt p m
+  pub whole : (m .regs .saving - 1) % m .regs .page ≡ 0
   pub room : m .regs .write + (sizeAt p m - (m .regs .saving - 1)) ≤ length (m .journal)
+
+-- pages have 1 to 16 bytes, and the write position and the bytes to erase are whole ones
+pub record Paged (r : Regs) : Type 0 where
+  pub some : 0 < r .page
+  pub few : r .page ≤ 16
+  pub write : r .write % r .page ≡ 0
+  pub erase : r .erase % r .page ≡ 0
 
 -- the parts of `soundOf`
 pub record Sound (p : List ℕ) (m : Machine) : Type 0 where
@@ -32,6 +44,7 @@ pub record Sound (p : List ℕ) (m : Machine) : Type 0 where
   pub cells-clear : zeroFrom (m .cells) (cellsOf p) (256 - cellsOf p) ≡ true
   pub marks-clear : zeroFrom (m .marks) (cellsOf p) (256 - cellsOf p) ≡ true
   pub fits : m .regs .write + m .regs .erase ≤ length (m .journal)
+  pub paged : Paged (m .regs)
   pub saves : 0 < m .regs .saving → SavingFacts p m
 
 -- ---- both ways
@@ -42,15 +55,33 @@ saving-facts p m h s =
     (λ z. let e : m .regs .saving ≡ 0 = eqb-true _ _ z in absurd (omega arith))
     (λ _ t.
     let a = and-both _ (leb (m .regs .write + (sizeAt p m - (m .regs .saving - 1))) (length (m .journal))) t in
-    let b = and-both _ (ltb (m .regs .saving - 1) (sizeAt p m)) (a .0) in
+    let w = and-both _ (pagesIn (m .regs .page) (m .regs .saving - 1)) (a .0) in
+    let b = and-both _ (ltb (m .regs .saving - 1) (sizeAt p m)) (w .0) in
     let c = and-both (eqb (byte p (m .regs .pc)) 0x0E) (eqb (m .regs .erase) 0) (b .0) in
-    record { at = eqb-true _ _ (c .0); nothing = eqb-true _ _ (c .1); stored = ltb-true _ _ (b .1); room = leb-true _ _ (a .1) })
+    record {
+      at = eqb-true _ _ (c .0);
+      nothing = eqb-true _ _ (c .1);
+      stored = ltb-true _ _ (b .1);
+      whole = eqb-true _ _ (w .1);
+      room = leb-true _ _ (a .1);
+    })
+
+paged-facts : (r : Regs) → pagesSound r ≡ true → Paged r
+paged-facts r h =
+    let a = and-both _ (pagesIn (r .page) (r .erase)) h in
+    let b = and-both _ (pagesIn (r .page) (r .write)) (a .0) in
+    let c = and-both (ltb 0 (r .page)) (leb (r .page) 16) (b .0) in
+    record { some = ltb-true _ _ (c .0); few = leb-true _ _ (c .1); write = eqb-true _ _ (b .1); erase = eqb-true _ _ (a .1) }
+
+pub facts-paged : (r : Regs) → Paged r → pagesSound r ≡ true
+facts-paged r f = rw (lt-ltb _ _ (f .some), le-leb _ _ (f .few), eq-eqb _ _ (f .write), eq-eqb _ _ (f .erase))
 
 pub sound-facts : {p : List ℕ} {m : Machine} → soundOf p m ≡ true → Sound p m
 unfolding soundOf
 sound-facts {p} {m} h =
     let a = and-both _ (savingSound p m) h in
-    let b = and-both _ (leb (m .regs .write + m .regs .erase) (length (m .journal))) (a .0) in
+    let g = and-both _ (pagesSound (m .regs)) (a .0) in
+    let b = and-both _ (leb (m .regs .write + m .regs .erase) (length (m .journal))) (g .0) in
     let c = and-both _ (restClear (cellsOf p) m) (b .0) in
     let d = and-both _ (eqb (m .regs .exclude) 0 || isExclude p (m .regs .exclude)) (c .0) in
     let e = and-both (kindsSound m) (isStart p (m .regs .pc)) (d .0) in
@@ -65,6 +96,7 @@ sound-facts {p} {m} h =
       cells-clear = r .0;
       marks-clear = r .1;
       fits = leb-true _ _ (b .1);
+      paged = paged-facts (m .regs) (g .1);
       saves = saving-facts p m (a .1);
     }
 
@@ -74,7 +106,7 @@ facts-saving p m h =
     (λ z. rw (eq-eqb (m .regs .saving) 0 z))
     (λ s.
     let f = h s in
-    rw (eq-eqb _ _ (f .at), eq-eqb _ _ (f .nothing), lt-ltb _ _ (f .stored), le-leb _ _ (f .room), or-true))
+    rw (eq-eqb _ _ (f .at), eq-eqb _ _ (f .nothing), lt-ltb _ _ (f .stored), eq-eqb _ _ (f .whole), le-leb _ _ (f .room), or-true))
     (eq-zero-or-pos (m .regs .saving))
 
 exclude-held : (p : List ℕ) (x : ℕ) → (x ≡ 0) ⊎ (isExclude p x ≡ true) → (eqb x 0 || isExclude p x) ≡ true
@@ -91,8 +123,15 @@ facts-sound {p} {m} s =
       s .cells-clear,
       s .marks-clear,
       le-leb _ _ (s .fits),
+      facts-paged (m .regs) (s .paged),
       facts-saving p m (s .saves),
     )
+
+-- the journal has a length that a chip of its pages may have
+pub good-length : {p : List ℕ} {m : Machine} → Good p m → ChipLength (m .regs .page) (length (m .journal))
+good-length {p} {m} g =
+    let f = sound-facts (g .sound) .paged in
+    record { some = f .some; few = f .few; most = g .most; whole = g .whole }
 
 -- ---- by entries
 

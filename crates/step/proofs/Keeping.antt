@@ -1,29 +1,34 @@
 -- A step keeps a sound state, and the lengths of its lists.
 -- Assumes nothing.
-use mathlib.Core.Path.{_≡_, refl, sym, _∙_}
+use mathlib.Core.Path.{_≡_, refl, sym, _∙_, ap}
 use mathlib.Core.Logic.{_⊎_, inr, ⊎-elim}
 use mathlib.Core.List.{List}
 use mathlib.Core.Bool.{Bool, true, false, cond, _&&_}
-use Prim.Native.Nat.{ℕ, _+_, _-_, _*_, _≤_, _<_}
+use Prim.Native.Nat.{ℕ, _+_, _-_, _*_, _%_, _≤_, _<_}
 use native.Mathlib.Omega.{arith}
 use lib.Dec.{eqb, ltb}
 use lib.IntN.{ℤ}
-use lib.ListN.{length, getD, set, length-set, List·getD-eq-default}
-use lib.Seq.{getD-set-other}
+use lib.ListN.{length, getD, set, take, drop, replicate, length-set, List·getD-eq-default}
+use lib.Seq.{getD-set-other, length-sets}
+use lib.Seq as seq
 use borrow.Author.Tests.{ltb-true, ltb-false, leb-true, eqb-false, eq-eqb}
 use Rattle.cellset.proofs.Bits.{le-or-lt}
 use Rattle.instruction.specs.Bytes.{byte, cellsOf}
 use Rattle.execution.specs.Effects.{Effect, stops, on, goes, writes, takes, gives, sets, saves, target, stopAfter, cellsAfter, cellsIn, nextOf}
 use Rattle.marks.specs.Marks.{savedMarks}
 use Rattle.marks.proofs.Laws.{excluded-out, excluded-length, excluded-small, saved-out, saved-length, saved-small}
-use Rattle.journal.proofs.Decoding.{image-some}
+use native.Mathlib.Nat.{zero-mod}
+use Rattle.journal.specs.Format.{formatOf}
+use Rattle.journal.proofs.Paging.{whole-add, whole-sub, whole-page}
+use Rattle.journal.proofs.Decoding.{image-some, padded-length}
 use Rattle.program.specs.Places.{isStart, isExclude, excludeNumber}
 use Rattle.program.proofs.Tests.{clash, and-both}
 use Rattle.program.proofs.Accepted.{Accepted, accepted, start-next}
 use Rattle.step.specs.State.{Env, Machine, machineOf, checkpointAt, imageAt, sizeAt, fitsAt, zeroFrom, marksFrom}
 use Rattle.step.specs.Step.{effectAt, isSaves, excludeAfter, marksAfter, performed, onJournal, begun, executedOf, erasedOf, storedOf, stepOf}
 use Rattle.step.specs.Ready.{Ready, Good}
-use Rattle.step.proofs.Facts.{Sound, sound-facts, facts-sound, zero-at, zero-from, mark-at, marks-from}
+use Rattle.step.proofs.Facts.{Paged, Sound, sound-facts, facts-sound, zero-at, zero-from, mark-at, marks-from}
+use Rattle.step.proofs.Stepping.{page-left}
 use Rattle.step.proofs.Allowed.{Allowed, may-stop, may-pass, may-go, may-write, may-take, may-give, may-set, may-save, allowed}
 
 -- a property of one of two machines, by the test that picks it
@@ -65,14 +70,19 @@ performed-lengths e f m = record { cells = cells-length f (m .cells); marks = ma
 
 erased-lengths : (m : Machine) → SameLengths m (erasedOf m)
 unfolding erasedOf
-erased-lengths m = record { cells = refl; marks = refl; journal = length-set (m .journal) _ _ }
+erased-lengths m = record {
+  cells = refl;
+  marks = refl;
+  journal = length-sets (m .journal) (m .regs .write + (m .regs .erase - m .regs .page)) (replicate (m .regs .page) 0xFF);
+}
 
 stored-lengths : (p : List ℕ) (m : Machine) → SameLengths m (storedOf p m)
 unfolding storedOf
 stored-lengths p m =
-    pick (SameLengths m) (eqb (m .regs .saving) (sizeAt p m))
-    (λ _. record { cells = refl; marks = saved-length (cellsOf p) (m .marks); journal = length-set (m .journal) _ _ })
-    (λ _. record { cells = refl; marks = refl; journal = length-set (m .journal) _ _ })
+    let l = length-sets (m .journal) (m .regs .write) (take (m .regs .page) (drop (m .regs .saving - 1) (imageAt p m))) in
+    pick (SameLengths m) (eqb (m .regs .saving - 1 + m .regs .page) (sizeAt p m))
+    (λ _. record { cells = refl; marks = saved-length (cellsOf p) (m .marks); journal = l })
+    (λ _. record { cells = refl; marks = refl; journal = l })
 
 executed-lengths : (e : Env) (v : ℤ) (m : Machine) → SameLengths m (executedOf e v m)
 unfolding executedOf begun
@@ -95,6 +105,16 @@ step-cells e v m = step-lengths e v m .cells
 
 pub step-marks : (e : Env) (v : ℤ) (m : Machine) → length (stepOf e v m .marks) ≡ length (m .marks)
 step-marks e v m = step-lengths e v m .marks
+
+-- a step keeps to the kind of chip
+pub step-page : (e : Env) (v : ℤ) (m : Machine) → stepOf e v m .regs .page ≡ m .regs .page
+unfolding stepOf erasedOf storedOf executedOf begun performed
+step-page e v m =
+    let P : Machine → Type 0 = λ x. x .regs .page ≡ m .regs .page in
+    pick P (ltb 0 (m .regs .erase)) (λ _. refl)
+    (λ _. pick P (ltb 0 (m .regs .saving))
+    (λ _. pick P (eqb (m .regs .saving - 1 + m .regs .page) (sizeAt (e .program) m)) (λ _. refl) (λ _. refl))
+    (λ _. pick P (isSaves (effectAt (e .program) v m) && fitsAt (e .program) m) (λ _. refl) (λ _. refl)))
 
 -- ---- lists that stay 0 or marks
 
@@ -210,7 +230,13 @@ erased-sound p m s h =
       exclude-is = s .exclude-is;
       cells-clear = s .cells-clear;
       marks-clear = s .marks-clear;
-      fits = omega (arith, s .fits, length-set (m .journal) (m .regs .write + (m .regs .erase - 1)) 0xFF);
+      fits = omega (arith, s .fits, length-sets (m .journal) (m .regs .write + (m .regs .erase - m .regs .page)) (replicate (m .regs .page) 0xFF));
+      paged = record {
+        some = s .paged .some;
+        few = s .paged .few;
+        write = s .paged .write;
+        erase = whole-sub (m .regs .page) (m .regs .erase) (m .regs .page) (s .paged .erase) (whole-page (m .regs .page));
+      };
       saves = λ k. absurd (omega (arith, s .saves k .nothing));
     }
 
@@ -223,18 +249,30 @@ size-kept p m w x k l = refl
 -- a save has a byte
 size-some : (p : List ℕ) (m : Machine) → 0 < sizeAt p m
 unfolding sizeAt imageAt
-size-some p m = image-some (checkpointAt p m)
+size-some p m = omega (arith, image-some (checkpointAt p m), padded-length (formatOf (m .regs .page)) (checkpointAt p m))
 
 module _ (p : List ℕ) (m : Machine) (s : Sound p m) (h : 0 < m .regs .saving) where
-  -- a byte that is not the last
-  more-sound : (m .regs .saving ≡ sizeAt p m → ⊥) → (b : ℕ)
+  -- the write position behind the page
+  stored-paged : {pc k : ℕ} → Paged (onJournal (m .regs) pc (m .regs .write + m .regs .page) (m .regs .erase) k)
+  stored-paged = record {
+    some = s .paged .some;
+    few = s .paged .few;
+    write = whole-add (m .regs .page) (m .regs .write) (m .regs .page) (s .paged .write) (whole-page (m .regs .page));
+    erase = s .paged .erase;
+  }
+
+  -- a page that is not the last
+  more-sound : (m .regs .saving - 1 + m .regs .page ≡ sizeAt p m → ⊥) → (b : List ℕ)
       → Sound p
-      (machineOf (onJournal (m .regs) (m .regs .pc) (m .regs .write + 1) (m .regs .erase) (m .regs .saving + 1)) (m .cells) (m .marks)
-      (set (m .journal) (m .regs .write) b))
+      (machineOf (onJournal (m .regs) (m .regs .pc) (m .regs .write + m .regs .page) (m .regs .erase) (m .regs .saving + m .regs .page)) (m .cells) (m .marks)
+      (seq.sets (m .journal) (m .regs .write) b))
   more-sound n b =
       let f = s .saves h in
-      let l = length-set (m .journal) (m .regs .write) b in
-      let z = size-kept p m (m .regs .write + 1) (m .regs .erase) (m .regs .saving + 1) (set (m .journal) (m .regs .write) b) in
+      let L = m .regs .page in
+      let i = page-left p m s h in
+      let l = length-sets (m .journal) (m .regs .write) b in
+      let z = size-kept p m (m .regs .write + L) (m .regs .erase) (m .regs .saving + L) (seq.sets (m .journal) (m .regs .write) b) in
+      let k : m .regs .saving - 1 + L ≡ m .regs .saving + L - 1 = omega arith in
       record {
         stop-small = s .stop-small;
         marks-small = s .marks-small;
@@ -243,22 +281,25 @@ module _ (p : List ℕ) (m : Machine) (s : Sound p m) (h : 0 < m .regs .saving) 
         cells-clear = s .cells-clear;
         marks-clear = s .marks-clear;
         fits = omega (arith, f .room, f .stored, f .nothing, l);
+        paged = stored-paged;
         saves = λ _. record {
           at = f .at;
           nothing = f .nothing;
-          stored = omega (arith, f .stored, z);
+          stored = omega (arith, i, z);
+          whole = ap (λ (x : ℕ). x % L) (sym k) ∙ whole-add L (m .regs .saving - 1) L (f .whole) (whole-page L);
           room = omega (arith, f .room, f .stored, z, l);
         };
       }
 
-  -- the last byte: the plan goes on behind the CHECKPOINT
-  last-sound : {c n x : ℕ} → Accepted p c n x → length (m .marks) ≡ 256 → (b : ℕ)
+  -- the last page: the plan goes on behind the CHECKPOINT
+  last-sound : {c n x : ℕ} → Accepted p c n x → length (m .marks) ≡ 256 → (b : List ℕ)
       → Sound p
-      (machineOf (onJournal (m .regs) (nextOf p (m .regs .pc)) (m .regs .write + 1) (m .regs .erase) 0) (m .cells) (savedMarks (cellsOf p) (m .marks))
-      (set (m .journal) (m .regs .write) b))
+      (machineOf (onJournal (m .regs) (nextOf p (m .regs .pc)) (m .regs .write + m .regs .page) (m .regs .erase) 0) (m .cells)
+      (savedMarks (cellsOf p) (m .marks)) (seq.sets (m .journal) (m .regs .write) b))
   last-sound a e b =
       let f = s .saves h in
-      let l = length-set (m .journal) (m .regs .write) b in
+      let i = page-left p m s h in
+      let l = length-sets (m .journal) (m .regs .write) b in
       record {
         stop-small = s .stop-small;
         marks-small = small-from (savedMarks (cellsOf p) (m .marks)) (saved-small (cellsOf p) (m .marks) (small-each (m .marks) e (s .marks-small)));
@@ -267,13 +308,16 @@ module _ (p : List ℕ) (m : Machine) (s : Sound p m) (h : 0 < m .regs .saving) 
         cells-clear = s .cells-clear;
         marks-clear = clear-kept (cellsOf p) (m .marks) (savedMarks (cellsOf p) (m .marks)) (saved-out (cellsOf p) (m .marks)) (s .marks-clear);
         fits = omega (arith, f .room, f .stored, f .nothing, l);
+        paged = stored-paged;
         saves = λ k. absurd (omega arith);
       }
 
   stored-sound : {c n x : ℕ} → Accepted p c n x → length (m .marks) ≡ 256 → Sound p (storedOf p m)
   unfolding storedOf
   stored-sound a e =
-      pick (Sound p) (eqb (m .regs .saving) (sizeAt p m)) (λ _. last-sound a e _) (λ t. more-sound (eqb-false (m .regs .saving) (sizeAt p m) t) _)
+      let b = take (m .regs .page) (drop (m .regs .saving - 1) (imageAt p m)) in
+      pick (Sound p) (eqb (m .regs .saving - 1 + m .regs .page) (sizeAt p m)) (λ _. last-sound a e b)
+      (λ t. more-sound (eqb-false (m .regs .saving - 1 + m .regs .page) (sizeAt p m) t) b)
 
 -- a save begins where it fits
 begun-sound : (p : List ℕ) (m : Machine) → Sound p m → byte p (m .regs .pc) ≡ 0x0E → m .regs .erase ≡ 0
@@ -289,7 +333,14 @@ begun-sound p m s at none room =
       cells-clear = s .cells-clear;
       marks-clear = s .marks-clear;
       fits = s .fits;
-      saves = λ _. record { at = at; nothing = none; stored = omega (arith, size-some p m, z); room = omega (arith, room, z) };
+      paged = record { some = s .paged .some; few = s .paged .few; write = s .paged .write; erase = s .paged .erase };
+      saves = λ _. record {
+        at = at;
+        nothing = none;
+        stored = omega (arith, size-some p m, z);
+        whole = zero-mod (m .regs .page);
+        room = omega (arith, room, z);
+      };
     }
 
 performed-sound : (e : Env) (f : Effect) (m : Machine) → Sound (e .program) m → Allowed (e .program) (m .regs .pc) f → m .regs .saving ≡ 0
@@ -304,6 +355,7 @@ performed-sound e f m s w z l =
       cells-clear = cells-kept w (m .cells) (s .cells-clear);
       marks-clear = marks-clear-kept e f (m .regs .pc) (m .marks) (s .marks-clear);
       fits = s .fits;
+      paged = record { some = s .paged .some; few = s .paged .few; write = s .paged .write; erase = s .paged .erase };
       saves = λ k. absurd (omega arith);
     }
 
@@ -338,6 +390,7 @@ good-step {e} {table} {m} v r g _ =
     record {
       sound = facts-sound (step-sound e v m (accepted (e .program) (sym (r .accepted))) (sound-facts (g .sound)) (g .marks));
       most = rw (step-length e v m) (g .most);
+      whole = rw (step-length e v m, step-page e v m) (g .whole);
       cells = step-cells e v m ∙ g .cells;
       marks = step-marks e v m ∙ g .marks;
     }

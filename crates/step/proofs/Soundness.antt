@@ -4,13 +4,13 @@
 use mathlib.Core.Path.{_≡_, refl, sym, _∙_, ap}
 use mathlib.Core.Bool.{Bool, true, false, cond, _&&_, _||_, not, and-false, and-true, and-assoc}
 use mathlib.Core.List.{List, []}
-use Prim.Native.Nat.{ℕ, zero, suc, _+_, _-_, _≤_, _<_}
+use Prim.Native.Nat.{ℕ, zero, suc, _+_, _-_, _%_, _≤_, _<_}
 use native.Mathlib.Nat.{zero-add}
 use native.Mathlib.Numerals.{add-one}
 use native.Mathlib.Omega.{arith}
 use lib.Dec.{eqb, ltb, leb}
 use lib.ListN.{length, getD}
-use borrow.Author.Tests.{eq-eqb, ne-eqb, lt-ltb, le-ltb, le-leb, lt-leb, ltb-true, ltb-false, not-true, not-false}
+use borrow.Author.Tests.{eq-eqb, ne-eqb, lt-ltb, le-ltb, le-leb, lt-leb, ltb-true, ltb-false, leb-true, not-true, not-false}
 use Rattle.cellset.specs.Bits.{has}
 use Rattle.cellset.specs.Sets.{SetIs}
 use Rattle.cellset.specs.Members.{membersFrom, members}
@@ -24,10 +24,13 @@ use Rattle.program.proofs.PlaceLaws.{place-read}
 use Rattle.marks.specs.Marks.{toStore}
 use Rattle.marks.proofs.Laws.{stored-members}
 use Rattle.journal.specs.declared.Commit.{Commit}
-use Rattle.journal.specs.Format.{image}
+use Rattle.journal.specs.Format.{pagesIn, formatOf, image, padded}
 use Rattle.journal.specs.Writing.{recordsOf, checkpointOf}
+use Rattle.journal.proofs.Paging.{fill-lt}
+use Rattle.journal.proofs.Decoding.{padded-length}
 use Rattle.journal.proofs.Written.{image-length}
-use Rattle.step.specs.State.{Machine, commitAt, checkpointAt, imageAt, sizeAt, zeroFrom, marksFrom, savingSound, kindsSound, soundOf}
+use Rattle.step.specs.State.{Machine, commitAt, checkpointAt, imageAt, sizeAt, zeroFrom, marksFrom, pagesSound, savingSound, kindsSound, soundOf}
+use Rattle.step.specs.declared.Regs.{Regs}
 
 -- ---- the loops of `cells_clear` and `marks_clear`
 
@@ -109,22 +112,23 @@ members-most s c (suc k) =
     bool-cases (eqb (has s c) 1) (λ t. rw t (omega arith)) (λ t. rw t (omega arith))
 
 -- b is how many bytes a checkpoint of the set s has, whatever its values
-abbrev pub SizeIs : ℕ → List ℕ → Type 0
-SizeIs b s = (values : List ℕ) (c : Commit) → b ≡ length (image (checkpointOf s values c))
+abbrev pub SizeIs : ℕ → List ℕ → (page : ℕ) → Type 0
+SizeIs b s page = (values : List ℕ) (c : Commit) → b ≡ length (padded (formatOf page) (checkpointOf s values c))
 
--- 256 records and a commit at most
-pub size-most : (s : List ℕ) {b : ℕ} → SizeIs b s → b ≤ 1550
+-- 256 records, a commit and the filling at most
+pub size-most : (s : List ℕ) {b page : ℕ} → SizeIs b s page → 0 < page → page ≤ 16 → b ≤ 1565
 unfolding members
-size-most s h =
+size-most s {page = page} h some few =
     let none : Commit = record { place = 0; exclude = 0; readings = 0; outputs = 0 } in
-    omega (arith, h [] none, image-length s [] none, members-most s 0 256)
+    let x = checkpointOf s [] none in
+    omega (arith, h [] none, padded-length (formatOf page) x, fill-lt page (length (image x)) some, image-length s [] none, members-most s 0 256)
 
 -- with the set of the present cells to store it is the size of the present save
-pub size-is : (p : List ℕ) (m : Machine) {s : List ℕ} {b : ℕ} → SetIs s (toStore (cellsOf p) (m .marks)) → SizeIs b s → b ≡ sizeAt p m
+pub size-is : (p : List ℕ) (m : Machine) {s : List ℕ} {b : ℕ} → SetIs s (toStore (cellsOf p) (m .marks)) → SizeIs b s (m .regs .page) → b ≡ sizeAt p m
 unfolding sizeAt imageAt checkpointAt checkpointOf
 size-is p m is h =
     h (m .cells) (commitAt p m)
-    ∙ ap (λ (cs : List ℕ). length (image (record { records = recordsOf cs (m .cells); commit = commitAt p m }))) (stored-members (cellsOf p) (m .marks) is)
+    ∙ ap (λ (cs : List ℕ). length (padded (formatOf (m .regs .page)) (record { records = recordsOf cs (m .cells); commit = commitAt p m }))) (stored-members (cellsOf p) (m .marks) is)
 
 module _ (p : List ℕ) (m : Machine) where
   -- nothing is being saved
@@ -144,12 +148,43 @@ module _ (p : List ℕ) (m : Machine) where
       let g : ltb (m .regs .saving - 1) (sizeAt p m) ≡ false = le-ltb (m .regs .saving - 1) (sizeAt p m) (omega arith) in
       rw (ne-eqb _ _ s, eq-eqb _ _ k, eq-eqb _ _ e, g)
 
+  pub saving-apart : {b : ℕ} → ¬ (m .regs .saving ≡ 0) → byte p (m .regs .pc) ≡ 14 → m .regs .erase ≡ 0 → b ≡ sizeAt p m → m .regs .saving - 1 < b
+      → pagesIn (m .regs .page) (m .regs .saving - 1) ≡ false → false ≡ savingSound p m
+  saving-apart s k e b l w =
+      let g : ltb (m .regs .saving - 1) (sizeAt p m) ≡ true = lt-ltb (m .regs .saving - 1) (sizeAt p m) (omega arith) in
+      rw (ne-eqb _ _ s, eq-eqb _ _ k, eq-eqb _ _ e, g, w)
+
   -- where none does, the room for the remaining bytes decides
   pub saving-fits : {b len : ℕ} → ¬ (m .regs .saving ≡ 0) → byte p (m .regs .pc) ≡ 14 → m .regs .erase ≡ 0 → b ≡ sizeAt p m → m .regs .saving - 1 < b
-      → length (m .journal) ≡ len → leb (m .regs .write + (b - (m .regs .saving - 1))) len ≡ savingSound p m
-  saving-fits s k e b l j =
+      → pagesIn (m .regs .page) (m .regs .saving - 1) ≡ true → length (m .journal) ≡ len → leb (m .regs .write + (b - (m .regs .saving - 1))) len ≡ savingSound p m
+  saving-fits s k e b l w j =
       let g : ltb (m .regs .saving - 1) (sizeAt p m) ≡ true = lt-ltb (m .regs .saving - 1) (sizeAt p m) (omega arith) in
-      rw (ne-eqb _ _ s, eq-eqb _ _ k, eq-eqb _ _ e, g, b, ← j)
+      rw (ne-eqb _ _ s, eq-eqb _ _ k, eq-eqb _ _ e, g, w, b, ← j)
+
+-- ---- pages
+
+module _ (r : Regs) where
+  -- each part that fails decides it
+  pub pages-none : r .page ≡ 0 → false ≡ pagesSound r
+  pages-none h = rw (le-ltb 0 (r .page) (omega arith))
+
+  pub pages-many : ¬ (r .page ≡ 0) → 16 < r .page → false ≡ pagesSound r
+  pages-many n h = rw (lt-ltb 0 (r .page) (omega arith), lt-leb _ _ h)
+
+  pub pages-write : ¬ (r .page ≡ 0) → r .page ≤ 16 → pagesIn (r .page) (r .write) ≡ false → false ≡ pagesSound r
+  pages-write n h w = rw (lt-ltb 0 (r .page) (omega arith), le-leb _ _ h, w)
+
+  -- where none does, the last one decides
+  pub pages-erase : ¬ (r .page ≡ 0) → r .page ≤ 16 → pagesIn (r .page) (r .write) ≡ true → {b : Bool} → b ≡ pagesIn (r .page) (r .erase) → b ≡ pagesSound r
+  pages-erase n h w e = rw (lt-ltb 0 (r .page) (omega arith), le-leb _ _ h, w) e
+
+  -- so pages have 1 to 16 bytes where it holds
+  pub pages-some : {b : Bool} → b ≡ pagesSound r → not b ≡ false → (0 < r .page) × (r .page ≤ 16)
+  pages-some e h =
+      let a = and-both _ (eqb (r .erase % r .page) 0) (sym e ∙ not-false _ h) in
+      let b = and-both _ (eqb (r .write % r .page) 0) (a .0) in
+      let c = and-both (ltb 0 (r .page)) (leb (r .page) 16) (b .0) in
+      (ltb-true _ _ (c .0), leb-true _ _ (c .1))
 
 -- ---- the whole test
 
@@ -193,17 +228,23 @@ module _ (p : List ℕ) (m : Machine) where
       let g : leb (m .regs .write + m .regs .erase) (length (m .journal)) ≡ false = lt-leb (m .regs .write + m .regs .erase) (length (m .journal)) (omega arith) in
       rw (g, and-false)
 
+  pub sound-pages : {b : Bool} → b ≡ pagesSound (m .regs) → not b ≡ true → false ≡ soundOf p m
+  unfolding soundOf
+  sound-pages e h = let g : pagesSound (m .regs) ≡ false = sym e ∙ not-true _ h in rw (g, and-false)
+
   -- where none of them does, the last one decides
-  pub sound-last : {a b c d e : Bool} {len : ℕ} → m .regs .stop ≤ 3 → a ≡ marksFrom (m .marks) 0 256 → not a ≡ false
+  pub sound-last : {a b c d e f : Bool} {len : ℕ} → m .regs .stop ≤ 3 → a ≡ marksFrom (m .marks) 0 256 → not a ≡ false
       → b ≡ (isStart p (m .regs .pc) && (eqb (m .regs .exclude) 0 || isExclude p (m .regs .exclude))) → not b ≡ false
       → c ≡ zeroFrom (m .cells) (cellsOf p) (256 - cellsOf p) → not c ≡ false
       → d ≡ zeroFrom (m .marks) (cellsOf p) (256 - cellsOf p) → not d ≡ false
-      → length (m .journal) ≡ len → m .regs .write + m .regs .erase ≤ len → e ≡ savingSound p m → e ≡ soundOf p m
+      → length (m .journal) ≡ len → m .regs .write + m .regs .erase ≤ len → f ≡ pagesSound (m .regs) → not f ≡ false
+      → e ≡ savingSound p m → e ≡ soundOf p m
   unfolding soundOf
-  sound-last stop a a′ b b′ c c′ d d′ j w e =
+  sound-last stop a a′ b b′ c c′ d d′ j w f f′ e =
+      let gf : pagesSound (m .regs) ≡ true = sym f ∙ not-false _ f′ in
       let ga : marksFrom (m .marks) 0 256 ≡ true = sym a ∙ not-false _ a′ in
       let gb = and-both (isStart p (m .regs .pc)) (eqb (m .regs .exclude) 0 || isExclude p (m .regs .exclude)) (sym b ∙ not-false _ b′) in
       let gc : zeroFrom (m .cells) (cellsOf p) (256 - cellsOf p) ≡ true = sym c ∙ not-false _ c′ in
       let gd : zeroFrom (m .marks) (cellsOf p) (256 - cellsOf p) ≡ true = sym d ∙ not-false _ d′ in
       let gw : leb (m .regs .write + m .regs .erase) (length (m .journal)) ≡ true = le-leb (m .regs .write + m .regs .erase) (length (m .journal)) (omega arith) in
-      rw (le-leb _ _ stop, ga, gb .0, gb .1, gc, gd, gw) e
+      rw (le-leb _ _ stop, ga, gb .0, gb .1, gc, gd, gw, gf) e

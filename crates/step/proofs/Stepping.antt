@@ -1,15 +1,17 @@
--- What a step leaves, by what is due: a byte erased, a byte stored, and the instruction by its opcode.
+-- What a step leaves, by what is due: a page erased, a page stored, and the instruction by its opcode.
 -- Assumes nothing.
 use mathlib.Core.Path.{_≡_, refl, sym, _∙_, ap}
 use mathlib.Core.Bool.{Bool, true, false, cond, _&&_}
-use mathlib.Core.List.{List}
+use mathlib.Core.List.{List, _++_}
 use mathlib.Core.Logic.{_⊎_, inl, inr}
 use Prim.Native.Nat.{ℕ, zero, suc, _+_, _-_, _*_, _<_, _≤_}
+use native.Mathlib.Nat.{add-zero, sub-zero}
 use native.Mathlib.Omega.{arith}
 use borrow.Author.Tests.{eq-eqb, ne-eqb, lt-ltb, le-ltb}
 use lib.Dec.{eqb, leb}
 use lib.IntN.{ℤ}
-use lib.ListN.{length, getD, set}
+use lib.ListN.{length, getD, set, take, drop, replicate, length-set, length-append, length-replicate}
+use lib.Seq as seq
 use mir.Syntax.{w16, w32}
 use mir.Val.{Fits}
 use Rattle.cellset.specs.Sets.{SetIs}
@@ -23,22 +25,93 @@ use Rattle.execution.specs.Effects.{target, readingsAfter, outputsAfter, stopAf
 use Rattle.marks.specs.Marks.{excludedMarks, savedMarks, toStore, storedFrom, storedCells}
 use Rattle.marks.proofs.Laws.{stored-members}
 use Rattle.journal.specs.declared.Commit.{Commit}
-use Rattle.journal.specs.Format.{image}
+use Rattle.journal.specs.Format.{formatOf, fillOf, image, padded}
 use Rattle.journal.specs.Writing.{checkpointOf}
+use Rattle.journal.proofs.Paging.{whole-none, whole-next, fill-lt}
+use Rattle.journal.proofs.Padding.{ff-behind}
+use Rattle.journal.proofs.Decoding.{padded-length, padded-whole}
 use Rattle.journal.proofs.Written.{image-length}
 use Rattle.step.specs.declared.Regs.{Regs}
 use Rattle.step.specs.State.{Env, envOf, Machine, machineOf, commitAt, checkpointAt, imageAt, sizeAt, fitsAt}
 use Rattle.step.specs.Step.{effectAt, isSaves, excludeAfter, marksAfter, performed, onJournal, begun, executedOf, erasedOf, storedOf, stepOf}
 use Rattle.step.specs.Ready.{Good, halted, emitted}
-use Rattle.step.proofs.Facts.{sound-facts}
+use Rattle.step.proofs.Facts.{Sound, sound-facts}
 use Rattle.step.proofs.Fetching.{start-below, exclude-start}
 
--- ---- a byte erased
+-- ---- a page erased
 
-pub erased : (r : Regs) (xs ms l : List ℕ)
-    → machineOf (onJournal r (r .pc) (r .write) (r .erase - 1) (r .saving)) xs ms (set l (r .write + (r .erase - 1)) 0xFF) ≡ erasedOf (machineOf r xs ms l)
+pub erased : (r : Regs) (xs ms l : List ℕ) {t : List ℕ} → t ≡ seq.sets l (r .write + (r .erase - r .page)) (replicate (r .page) 0xFF)
+    → machineOf (onJournal r (r .pc) (r .write) (r .erase - r .page) (r .saving)) xs ms t ≡ erasedOf (machineOf r xs ms l)
 unfolding erasedOf
-erased r xs ms l = refl
+erased r xs ms l e = λ i. machineOf (onJournal r (r .pc) (r .write) (r .erase - r .page) (r .saving)) xs ms (e i)
+
+-- a page is there to be erased
+pub erasable : {p : List ℕ} {m : Machine} → Good p m → 0 < m .regs .erase → m .regs .page ≤ m .regs .erase
+erasable {p} {m} g h =
+    let f = sound-facts (g .sound) .paged in
+    omega (arith, whole-next (m .regs .page) 0 (m .regs .erase) (whole-none (m .regs .page)) (f .erase) h)
+
+-- ---- n bytes stored one by one
+
+-- `erase_bytes`: what is still to be stored leaves what all of it leaves
+pub record Erasing (from n : ℕ) (l₀ l : List ℕ) (i : ℕ) : Type 0 where
+  pub size : length l ≡ length l₀
+  pub below : i ≤ n
+  pub rest : seq.sets l (from + i) (replicate (n - i) 0xFF) ≡ seq.sets l₀ from (replicate n 0xFF)
+
+pub erasing-first : (from n : ℕ) (l : List ℕ) → Erasing from n l l 0
+erasing-first from n l = record { size = refl; below = omega arith; rest = rw (add-zero from, sub-zero n) }
+
+module _ {from n : ℕ} {l₀ l : List ℕ} {i : ℕ} (q : Erasing from n l₀ l i) where
+  pub erasing-turn : i < n → Erasing from n l₀ (set l (from + i) 0xFF) (i + 1)
+  erasing-turn h =
+      let a : from + (i + 1) ≡ suc (from + i) = omega arith in
+      let k : n - i ≡ suc (n - (i + 1)) = omega arith in
+      record { size = length-set l (from + i) 0xFF ∙ q .size; below = omega arith; rest = rw a (rw k at (q .rest)) }
+
+  pub erasing-done : n ≤ i → l ≡ seq.sets l₀ from (replicate n 0xFF)
+  erasing-done h = let k : n - i ≡ 0 = omega arith in rw k at (q .rest)
+
+-- `put_bytes`: the same of the bytes of b from `from` on, where `byte` has them, and FF past the end of its image
+pub record Putting (to from n : ℕ) (image l₀ l : List ℕ) (i : ℕ) : Type 0 where
+  pub size : length l ≡ length l₀
+  pub below : i ≤ n
+  pub rest : (f : ℕ) → from + n ≤ length image + f
+      → seq.sets l (to + i) (take (n - i) (drop (from + i) (image ++ replicate f 0xFF))) ≡ seq.sets l₀ to (take n (drop from (image ++ replicate f 0xFF)))
+
+pub putting-first : (to from n : ℕ) (image l : List ℕ) → Putting to from n image l l 0
+putting-first to from n image l =
+    record { size = refl; below = omega arith; rest = λ f h. rw (add-zero to, add-zero from, sub-zero n) }
+
+module _ {to from n : ℕ} {image l₀ l : List ℕ} {i : ℕ} (q : Putting to from n image l₀ l i) where
+  pub putting-turn : i < n → {x : ℕ} → x ≡ getD image (from + i) 0xFF → Putting to from n image l₀ (set l (to + i) x) (i + 1)
+  putting-turn h {x} e =
+      let a : to + (i + 1) ≡ suc (to + i) = omega arith in
+      let b : from + (i + 1) ≡ suc (from + i) = omega arith in
+      let k : n - i ≡ suc (n - (i + 1)) = omega arith in
+      record {
+        size = length-set l (to + i) x ∙ q .size;
+        below = omega arith;
+        rest = λ f g.
+            let stored = image ++ replicate f 0xFF in
+            let z : length (replicate {A = ℕ} f 0xFF) ≡ f = length-replicate f 0xFF in
+            let d : from + i < length stored = omega (arith, length-append image (replicate f 0xFF)) in
+            let y : getD stored (from + i) 0xFF ≡ x = ff-behind image f (from + i) ∙ sym e in
+            rw (a, b) (rw (k, seq.drop-cons stored (from + i) 0xFF d, y) at (q .rest f g));
+      }
+
+  pub putting-done : n ≤ i → (f : ℕ) → from + n ≤ length image + f → l ≡ seq.sets l₀ to (take n (drop from (image ++ replicate f 0xFF)))
+  putting-done h f g = let k : n - i ≡ 0 = omega arith in rw k at (q .rest f g)
+
+-- what is stored of a checkpoint
+pub put-page : (page : ℕ) (s values : List ℕ) (c : Commit) (to from n : ℕ) (l₀ : List ℕ) {l : List ℕ}
+    → ((f : ℕ) → from + n ≤ length (image (checkpointOf s values c)) + f
+    → l ≡ seq.sets l₀ to (take n (drop from (image (checkpointOf s values c) ++ replicate f 0xFF))))
+    → from + n ≤ length (padded (formatOf page) (checkpointOf s values c))
+    → l ≡ seq.sets l₀ to (take n (drop from (padded (formatOf page) (checkpointOf s values c))))
+unfolding padded
+put-page page s values c to from n l₀ h g =
+    h (fillOf page (length (image (checkpointOf s values c)))) (omega (arith, padded-length (formatOf page) (checkpointOf s values c)))
 
 -- ---- the instruction, by its effect
 
@@ -54,6 +127,7 @@ onProgram r t x n k s =
       write = r .write;
       erase = r .erase;
       saving = r .saving;
+      page = r .page;
     }
 
 -- unless it begins a save, the effect f is performed
@@ -140,7 +214,7 @@ module _ (p ws : List ℕ) (v : ℤ) (r : Regs) (xs ms l : List ℕ) where
       → machineOf (onProgram r t (r .exclude) (r .readings) (r .outputs) (r .stop)) xs ms l ≡ executedOf (envOf p ws) v (machineOf r xs ms l)
   passes q z h et = performs (envOf p ws) v (machineOf r xs ms l) saves (save-effect q) h (rw q et) refl refl refl z refl refl
 
--- ---- a byte stored
+-- ---- a page stored
 
 -- a save holds 256 cells at most
 stored-few : (n : ℕ) (ms : List ℕ) (c k : ℕ) → length (storedFrom n ms c k) ≤ k
@@ -153,55 +227,68 @@ stored-few n ms c (suc k) =
 module _ (p : List ℕ) (r : Regs) (xs ms l : List ℕ) {s : List ℕ} {n : ℕ} (en : n ≡ cellsOf p) (h : SetIs s (toStore n ms)) where
   -- the checkpoint of the set of cells to store is that of the state; t is the place that it has
   pub image-same : {t : ℕ} → t ≡ nextOf p (r .pc)
-      → image (checkpointOf s xs (record { place = t; exclude = r .exclude; readings = r .readings; outputs = r .outputs })) ≡ imageAt p (machineOf r xs ms l)
+      → padded (formatOf (r .page)) (checkpointOf s xs (record { place = t; exclude = r .exclude; readings = r .readings; outputs = r .outputs }))
+      ≡ imageAt p (machineOf r xs ms l)
   unfolding checkpointOf checkpointAt imageAt
   image-same et = rw (stored-members n ms h, en, et)
 
   -- k is its size, b whether it fits
-  pub size-same : {k : ℕ} → ((values : List ℕ) (c : Commit) → k ≡ length (image (checkpointOf s values c))) → k ≡ sizeAt p (machineOf r xs ms l)
+  pub size-same : {k : ℕ} → ((values : List ℕ) (c : Commit) → k ≡ length (padded (formatOf (r .page)) (checkpointOf s values c))) → k ≡ sizeAt p (machineOf r xs ms l)
   unfolding sizeAt
   size-same f = f xs (commitAt p (machineOf r xs ms l)) ∙ ap length (image-same refl)
 
-  pub fits-same : {b : Bool} → ((values : List ℕ) (c : Commit) → b ≡ leb (r .write + length (image (checkpointOf s values c))) (length l))
+  pub fits-same : {b : Bool} → ((values : List ℕ) (c : Commit) → b ≡ leb (r .write + length (padded (formatOf (r .page)) (checkpointOf s values c))) (length l))
       → b ≡ fitsAt p (machineOf r xs ms l)
   unfolding sizeAt
   fits-same f = f xs (commitAt p (machineOf r xs ms l)) ∙ ap (λ (q : List ℕ). leb (r .write + length q) (length l)) (image-same refl)
 
-  pub size-small : sizeAt p (machineOf r xs ms l) ≤ 1550
+  pub size-small : 0 < r .page → r .page ≤ 16 → sizeAt p (machineOf r xs ms l) ≤ 1565
   unfolding sizeAt storedCells
-  size-small =
-      let e = image-length s xs (commitAt p (machineOf r xs ms l)) in
+  size-small some few =
+      let c = commitAt p (machineOf r xs ms l) in
+      let e = image-length s xs c in
+      let d = padded-length (formatOf (r .page)) (checkpointOf s xs c) in
+      let z = fill-lt (r .page) (length (image (checkpointOf s xs c))) some in
       let f = ap length (image-same refl) in
       let g = ap length (stored-members n ms h) in
       let i = stored-few n ms 0 256 in
       omega arith
 
-  module _ {t b k : ℕ} (q : byte p (r .pc) ≡ 0x0E) (et : t ≡ r .pc + lengthOf 0x0E)
-      (eb : b ≡ getD (image (checkpointOf s xs (record { place = t; exclude = r .exclude; readings = r .readings; outputs = r .outputs }))) (r .saving - 1) 0)
-      (ek : (values : List ℕ) (c : Commit) → k ≡ length (image (checkpointOf s values c))) where
+  module _ {t k : ℕ} {l′ : List ℕ} (q : byte p (r .pc) ≡ 0x0E) (et : t ≡ r .pc + lengthOf 0x0E)
+      (eb : (page : ℕ)
+      → r .saving - 1 + r .page ≤ length (padded (formatOf page) (checkpointOf s xs (record { place = t; exclude = r .exclude; readings = r .readings; outputs = r .outputs })))
+      → l′ ≡ seq.sets l (r .write) (take (r .page) (drop (r .saving - 1)
+      (padded (formatOf page) (checkpointOf s xs (record { place = t; exclude = r .exclude; readings = r .readings; outputs = r .outputs }))))))
+      (ek : (values : List ℕ) (c : Commit) → k ≡ length (padded (formatOf (r .page)) (checkpointOf s values c)))
+      (room : r .saving - 1 + r .page ≤ sizeAt p (machineOf r xs ms l)) where
     next-same : t ≡ nextOf p (r .pc)
     next-same = rw q et
 
-    byte-same : b ≡ getD (imageAt p (machineOf r xs ms l)) (r .saving - 1) 0
-    byte-same = eb ∙ ap (λ (i : List ℕ). getD i (r .saving - 1) 0) (image-same next-same)
+    page-same : l′ ≡ seq.sets l (r .write) (take (r .page) (drop (r .saving - 1) (imageAt p (machineOf r xs ms l))))
+    unfolding sizeAt
+    page-same =
+        let i = image-same next-same in
+        eb (r .page) (omega (arith, ap length i)) ∙ ap (λ (x : List ℕ). seq.sets l (r .write) (take (r .page) (drop (r .saving - 1) x))) i
 
-    pub stores-last : {zs : List ℕ} → r .saving ≡ k → zs ≡ savedMarks n ms
-        → machineOf (onJournal r t (r .write + 1) (r .erase) 0) xs zs (set l (r .write) b) ≡ storedOf p (machineOf r xs ms l)
+    pub stores-last : {zs : List ℕ} → r .saving - 1 + r .page ≡ k → zs ≡ savedMarks n ms
+        → machineOf (onJournal r t (r .write + r .page) (r .erase) 0) xs zs l′ ≡ storedOf p (machineOf r xs ms l)
     unfolding storedOf
-    stores-last f ez = rw (eq-eqb _ _ (f ∙ size-same ek), ← byte-same, ← next-same, ← en, ← ez)
+    stores-last f ez = rw (eq-eqb _ _ (f ∙ size-same ek), ← page-same, ← next-same, ← en, ← ez)
 
-    pub stores-next : (r .saving ≡ k → ⊥)
-        → machineOf (onJournal r (r .pc) (r .write + 1) (r .erase) (r .saving + 1)) xs ms (set l (r .write) b) ≡ storedOf p (machineOf r xs ms l)
+    pub stores-next : (r .saving - 1 + r .page ≡ k → ⊥)
+        → machineOf (onJournal r (r .pc) (r .write + r .page) (r .erase) (r .saving + r .page)) xs ms l′ ≡ storedOf p (machineOf r xs ms l)
     unfolding storedOf
-    stores-next f = rw (ne-eqb _ _ (λ g. f (g ∙ sym (size-same ek))), ← byte-same)
+    stores-next f = rw (ne-eqb _ _ (λ g. f (g ∙ sym (size-same ek))), ← page-same)
 
 -- what `store_one` needs of the numbers
 pub record Storing (p : List ℕ) (m : Machine) : Type 0 where
   pub place : m .regs .pc < 2048
   pub exclude : m .regs .exclude < 2048
   pub at : byte p (m .regs .pc) ≡ 0x0E
-  pub stored : m .regs .saving - 1 < sizeAt p m
-  pub inside : m .regs .write < length (m .journal)
+  pub stored : m .regs .saving - 1 + m .regs .page ≤ sizeAt p m
+  pub inside : m .regs .write + m .regs .page ≤ length (m .journal)
+  pub some : 0 < m .regs .page
+  pub few : m .regs .page ≤ 16
   pub most : length (m .journal) ≤ 65536
 
 -- the last EXCLUDE stands within the program
@@ -209,29 +296,39 @@ exclude-within : (p : List ℕ) (n : ℕ) → length p ≤ 2048 → (n ≡ 0) �
 exclude-within p n l (inl z) = omega arith
 exclude-within p n l (inr h) = let b = start-below p n (exclude-start p n h .0) in omega arith
 
+-- a page of the save at work is still to be stored
+pub page-left : (p : List ℕ) (m : Machine) → Sound p m → 0 < m .regs .saving → m .regs .saving - 1 + m .regs .page ≤ sizeAt p m
+unfolding sizeAt imageAt
+page-left p m f k =
+    let s = f .saves k in
+    whole-next (m .regs .page) (m .regs .saving - 1) (sizeAt p m) (s .whole) (padded-whole (formatOf (m .regs .page)) (f .paged .some) (checkpointAt p m)) (s .stored)
+
 pub storing : (p : List ℕ) (m : Machine) → Good p m → length p ≤ 2048 → 0 < m .regs .saving → Storing p m
 storing p m g l k =
     let f = sound-facts (g .sound) in
     let s = f .saves k in
     let b = start-below p (m .regs .pc) (f .stands) in
-    let i = s .stored in
+    let i = page-left p m f k in
     let o = s .room in
+    let some = f .paged .some in
     record {
       place = omega arith;
       exclude = exclude-within p (m .regs .exclude) l (f .exclude-is);
       at = s .at;
       stored = i;
       inside = omega arith;
+      some = some;
+      few = f .paged .few;
       most = g .most;
     }
 
--- the offset after the CHECKPOINT and one more byte stored fit
+-- the offset after the CHECKPOINT and one more page stored fit
 pub place-fits : {t o : ℕ} → o < 2048 → t ≡ o + lengthOf 0x0E → Fits w16 t
 place-fits h e = omega (arith, length-most 0x0E)
 
 pub saving-fits : (p : List ℕ) (r : Regs) (xs ms l : List ℕ) {s : List ℕ} {n : ℕ} → n ≡ cellsOf p → SetIs s (toStore n ms)
-    → Storing p (machineOf r xs ms l) → Fits w32 (r .saving + 1)
-saving-fits p r xs ms l en h f = omega (arith, f .stored, size-small p r xs ms l en h)
+    → Storing p (machineOf r xs ms l) → Fits w32 (r .saving + r .page)
+saving-fits p r xs ms l en h f = omega (arith, f .stored, f .few, size-small p r xs ms l en h (f .some) (f .few))
 
 -- ---- the step that is due
 

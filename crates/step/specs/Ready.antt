@@ -1,6 +1,6 @@
 -- What the functions of a step rely on, once a call is accepted, and what they leave in the registers.
 -- Assumes nothing.
-use Prim.Native.Nat.{ℕ, _+_, _≤_}
+use Prim.Native.Nat.{ℕ, _+_, _%_, _≤_}
 use mathlib.Core.Path.{_≡_}
 use mathlib.Core.Bool.{true, cond}
 use mathlib.Core.List.{List}
@@ -29,10 +29,11 @@ pub record Ready (e : Env) (table : List ℕ) : Type 0 where
   pub places : Places (e .program) table
   pub words : 512 ≤ length (e .sets)
 
--- the machine's state is sound and its journal not too long
+-- the machine's state is sound, and its journal has a length that a chip of its pages may have
 pub record Good (p : List ℕ) (m : Machine) : Type 0 where
   pub sound : soundOf p m ≡ true
   pub most : length (m .journal) ≤ 65536
+  pub whole : length (m .journal) % m .regs .page ≡ 0
   pub cells : length (m .cells) ≡ 256
   pub marks : length (m .marks) ≡ 256
 
@@ -48,6 +49,7 @@ halted r k =
       write = r .write;
       erase = r .erase;
       saving = r .saving;
+      page = r .page;
     }
 
 abbrev pub emitted : Regs → Regs
@@ -62,4 +64,5 @@ emitted r =
       write = r .write;
       erase = r .erase;
       saving = r .saving;
+      page = r .page;
     })

@@ -10,7 +10,7 @@ use Rattle.program.specs.Places.{isStart, isExclude}
 use Rattle.execution.specs.Effects.{nextOf}
 use Rattle.marks.specs.Marks.{storedCells}
 use Rattle.journal.specs.declared.Commit.{Commit}
-use Rattle.journal.specs.Format.{Checkpoint, image}
+use Rattle.journal.specs.Format.{Checkpoint, formatOf, pagesIn, padded}
 use Rattle.journal.specs.Writing.{recordsOf}
 use Rattle.step.specs.declared.Regs.{Regs}
 
@@ -46,9 +46,9 @@ commitAt p m =
 unfoldable pub checkpointAt : List ℕ → Machine → Checkpoint
 checkpointAt p m = record { records = recordsOf (storedCells (cellsOf p) (m .marks)) (m .cells); commit = commitAt p m }
 
--- its bytes, and how many
+-- its bytes as they are stored, the last page filled, and how many
 unfoldable pub imageAt : List ℕ → Machine → List ℕ
-imageAt p m = image (checkpointAt p m)
+imageAt p m = padded (formatOf (m .regs .page)) (checkpointAt p m)
 
 unfoldable pub sizeAt : List ℕ → Machine → ℕ
 sizeAt p m = length (imageAt p m)
@@ -73,13 +73,17 @@ unfoldable pub marksFrom : List ℕ → (c k : ℕ) → Bool
 marksFrom l c zero = true
 marksFrom l c (suc k) = leb (getD l c 0) 3 && marksFrom l (suc c) k
 
+-- "a write position, a count of bytes to erase or a save's count of bytes stored not divisible by 16 gives 10", with pages of 1 to 16 bytes
+abbrev pub pagesSound : Regs → Bool
+pagesSound r = ltb 0 (r .page) && leb (r .page) 16 && pagesIn (r .page) (r .write) && pagesIn (r .page) (r .erase)
+
 -- "while saving, it stands at a CHECKPOINT, has nothing to erase, has stored fewer bytes than its save has, and the remaining bytes fit"; saving is 0, or one
 -- more than the bytes stored
 abbrev pub savingSound : List ℕ → Machine → Bool
 savingSound p m =
     eqb (m .regs .saving) 0
     || (eqb (byte p (m .regs .pc)) 0x0E && eqb (m .regs .erase) 0 && ltb (m .regs .saving - 1) (sizeAt p m)
-    && leb (m .regs .write + (sizeAt p m - (m .regs .saving - 1))) (length (m .journal)))
+    && pagesIn (m .regs .page) (m .regs .saving - 1) && leb (m .regs .write + (sizeAt p m - (m .regs .saving - 1))) (length (m .journal)))
 
 -- "a mark or kind of stop that is none, gives 10"
 abbrev pub kindsSound : Machine → Bool
@@ -94,4 +98,5 @@ soundOf p m =
     && (eqb (m .regs .exclude) 0 || isExclude p (m .regs .exclude))
     && restClear (cellsOf p) m
     && leb (m .regs .write + m .regs .erase) (length (m .journal))
+    && pagesSound (m .regs)
     && savingSound p m

@@ -1,10 +1,12 @@
--- A step: "A step executes one command or stores one byte"; "the first steps erase the torn bytes, highest address first, one a step".
+-- A step: "A step executes one command or stores one byte", on a page chip "one page"; "the first steps erase the torn bytes, highest address first, one a
+-- step". A page of one byte is the byte chip.
 -- Assumes nothing.
 use Prim.Native.Nat.{ℕ, _+_, _-_, _*_}
 use mathlib.Core.Bool.{Bool, true, false, cond, _&&_}
 use mathlib.Core.List.{List, [], _∷_}
 use lib.IntN.{ℤ}
-use lib.ListN.{getD, set}
+use lib.ListN.{take, drop, replicate}
+use lib.Seq as seq
 use lib.Dec.{eqb, ltb}
 use Rattle.instruction.specs.Bytes.{byte, cellsOf, instructionAt}
 use Rattle.program.specs.Places.{excludeNumber}
@@ -63,6 +65,7 @@ performed e f m =
             write = r .write;
             erase = r .erase;
             saving = r .saving;
+            page = r .page;
           };
       cells = cellsAfter f (m .cells);
       marks = marksAfter e f (r .pc) (m .marks);
@@ -81,6 +84,7 @@ onJournal r t w x k =
       write = w;
       erase = x;
       saving = k;
+      page = r .page;
     }
 
 -- "CHECKPOINT's step finds whether the save fits"; if so, "each following step stores its next byte"
@@ -92,22 +96,23 @@ executedOf e v m =
     let f = effectAt (e .program) v m in
     cond (isSaves f && fitsAt (e .program) m) (begun m) (performed e f m)
 
--- the highest torn byte is erased
+-- the highest torn page is erased
 unfoldable pub erasedOf : Machine → Machine
 erasedOf m =
     let r = m .regs in
-    machineOf (onJournal r (r .pc) (r .write) (r .erase - 1) (r .saving)) (m .cells) (m .marks) (set (m .journal) (r .write + (r .erase - 1)) 0xFF)
+    machineOf (onJournal r (r .pc) (r .write) (r .erase - r .page) (r .saving)) (m .cells) (m .marks)
+    (seq.sets (m .journal) (r .write + (r .erase - r .page)) (replicate (r .page) 0xFF))
 
--- the save's next byte is stored; "With the last byte, Pending becomes Kept and the plan goes on"
+-- the save's next page is stored; "With the last byte, Pending becomes Kept and the plan goes on"
 unfoldable pub storedOf : List ℕ → Machine → Machine
 storedOf p m =
     let r = m .regs in
-    let l = set (m .journal) (r .write) (getD (imageAt p m) (r .saving - 1) 0) in
-    cond (eqb (r .saving) (sizeAt p m))
-    (machineOf (onJournal r (nextOf p (r .pc)) (r .write + 1) (r .erase) 0) (m .cells) (savedMarks (cellsOf p) (m .marks)) l)
-    (machineOf (onJournal r (r .pc) (r .write + 1) (r .erase) (r .saving + 1)) (m .cells) (m .marks) l)
+    let l = seq.sets (m .journal) (r .write) (take (r .page) (drop (r .saving - 1) (imageAt p m))) in
+    cond (eqb (r .saving - 1 + r .page) (sizeAt p m))
+    (machineOf (onJournal r (nextOf p (r .pc)) (r .write + r .page) (r .erase) 0) (m .cells) (savedMarks (cellsOf p) (m .marks)) l)
+    (machineOf (onJournal r (r .pc) (r .write + r .page) (r .erase) (r .saving + r .page)) (m .cells) (m .marks) l)
 
--- what is due: a byte to erase, else the next byte of a save, else the instruction
+-- what is due: a page to erase, else the next page of a save, else the instruction
 unfoldable pub stepOf : Env → ℤ → Machine → Machine
 stepOf e v m =
     cond (ltb 0 (m .regs .erase)) (erasedOf m)

@@ -1,8 +1,10 @@
-// The machine's state (document 01: 'Marks, steps and the chip'), and one step of it: a byte to erase, else the next byte of
-// a save, else the instruction. The registers go by value, cells, marks and journal are changed in place. Proved: a step of
-// a sound state is `stepOf` of specs/Step.antt, and keeps it sound; `sound` is `soundOf` of specs/State.antt.
+// The machine's state (document 01: 'Marks, steps and the chip'), and one step of it: a page to erase, else the
+// next page of a save, else the instruction; on a byte chip a page is a byte. The registers go by value, cells,
+// marks and journal are changed in place. Proved: a step of a sound state is `stepOf` of specs/Step.antt, and
+// keeps it sound; `sound` is `soundOf` of specs/State.antt.
 pub mod sound;
 
+use cellset::CellSet;
 use execution::after;
 use execution::plain;
 use execution::put_cell;
@@ -26,7 +28,10 @@ ghost use mathlib.Core.Path.{_≡_};
 ghost use mathlib.Core.List.{List};
 ghost use Prim.Native.Nat.{ℕ, _+_, _<_, _≤_};
 ghost use lib.IntN.{ℤ};
-ghost use lib.ListN.{length};
+ghost use lib.ListN.{length, take, drop, replicate};
+ghost use lib.Seq.{sets};
+ghost use Rattle.journal.specs.Format.{formatOf, padded};
+ghost use Rattle.journal.specs.Writing.{checkpointOf};
 ghost use mathlib.Core.Bool.{true};
 ghost use Rattle.instruction.specs.Bytes.{byte, cellsOf};
 ghost use Rattle.program.specs.Places.{isExclude};
@@ -36,7 +41,9 @@ ghost use Rattle.step.specs.Ready.{Ready, Good, halted, emitted};
 
 // The registers: the place (offset of the instruction due), the last EXCLUDE executed or 0, the readings
 // taken and the outputs given, the kind of stop, the write position, the bytes to erase, and 0 or one more
-// than the bytes stored of the save at work.
+// than the bytes stored of the save at work. The last one is no part of the state that a host lends: it
+// says for which kind of chip the call is, by the bytes that a step stores or erases, 1 for the byte chip
+// and 16 for the page chip.
 pub struct Regs {
     pub pc: u32,
     pub exclude: u32,
@@ -46,6 +53,7 @@ pub struct Regs {
     pub write: u32,
     pub erase: u32,
     pub saving: u32,
+    pub page: usize,
 }
 
 // The state: the registers, the cells' patterns and their marks' bytes.
@@ -74,18 +82,51 @@ pub fn cell_count(p: &[u8]) -> usize
     byte_at(p, 0) as usize + 1
 }
 
-// The highest torn byte is erased.
+// n bytes are erased, from `from` on.
+fn erase_bytes(journal: &mut [u8], from: usize, n: usize)
+    requires { ⌜ (from + n ≤ length (now journal)) × (length (now journal) ≤ 65536) ⌝ }
+    ensures { λ _. ⌜ now (journal .exit) ≡ sets (now (journal .entry)) from (replicate n 0xFF) ⌝ }
+{
+    let mut i: usize = 0;
+    while i < n {
+        journal[from + i] = ERASED;
+        i += 1;
+    }
+}
+
+// The highest torn page is erased.
 fn erase_one(mut r: Regs, journal: &mut [u8]) -> Regs
-    requires { ⌜ (0 < r .erase) × (r .write + r .erase ≤ length (now journal)) × (length (now journal) ≤ 65536) ⌝ }
+    requires { ⌜ (r .page ≤ r .erase) × (r .write + r .erase ≤ length (now journal)) × (length (now journal) ≤ 65536) ⌝ }
     ensures { λ q. ⌜ ((xs ms : List ℕ) → machineOf q xs ms (now (journal .exit)) ≡ erasedOf (machineOf r xs ms (now (journal .entry)))) ⌝ }
 {
-    let left = r.erase - 1;
-    journal[(r.write + left) as usize] = ERASED;
+    let page = r.page;
+    let left = r.erase - page as u32;
+    erase_bytes(journal, (r.write + left) as usize, page);
     r.erase = left;
     r
 }
 
-// The next byte of the save is stored; with the last one the save is whole.
+// n bytes of what is stored of a checkpoint, from `from` on, go to the journal, from `to` on.
+fn put_bytes(
+    journal: &mut [u8],
+    to: usize,
+    s: CellSet,
+    cells: &[u32; 256],
+    commit: Commit,
+    from: usize,
+    n: usize,
+)
+    requires { ⌜ (to + n ≤ length (now journal)) × (length (now journal) ≤ 65536) × (from + n ≤ 65536) ⌝ }
+    ensures { λ _. ⌜ ((page : ℕ) → from + n ≤ length (padded (formatOf page) (checkpointOf (s .words) (now (cells .entry)) commit)) → now (journal .exit) ≡ sets (now (journal .entry)) to (take n (drop from (padded (formatOf page) (checkpointOf (s .words) (now (cells .entry)) commit))))) ⌝ }
+{
+    let mut i: usize = 0;
+    while i < n {
+        journal[to + i] = image_byte(s, cells, commit, from + i);
+        i += 1;
+    }
+}
+
+// The next page of the save is stored; with the last one the save is whole.
 fn store_one(
     mut r: Regs,
     p: &[u8],
@@ -105,15 +146,17 @@ fn store_one(
         readings: r.readings,
         outputs: r.outputs,
     };
-    journal[r.write as usize] = image_byte(s, cells, commit, (r.saving - 1) as usize);
-    r.write += 1;
-    if r.saving as usize == size(s) {
+    let page = r.page;
+    let from = r.saving as usize - 1;
+    put_bytes(journal, r.write as usize, s, cells, commit, from, page);
+    r.write += page as u32;
+    if from + page == size(s, page) {
         keep(marks, n);
         r.pc = next;
         r.saving = 0;
         return r;
     }
-    r.saving += 1;
+    r.saving += page as u32;
     r
 }
 
@@ -173,11 +216,11 @@ fn exclude_all(
 
 // CHECKPOINT: the save begins where it fits, else the program goes on.
 fn begin_save(mut r: Regs, p: &[u8], marks: &[u8; 256], journal: &[u8]) -> Regs
-    requires { ⌜ (r .pc < 4096) × (byte (now p) (r .pc) ≡ 0x0E) × (r .stop ≡ 0) ⌝ }
+    requires { ⌜ (r .pc < 4096) × (byte (now p) (r .pc) ≡ 0x0E) × (r .stop ≡ 0) × (0 < r .page) × (r .page ≤ 16) ⌝ }
     ensures { λ q. ⌜ ((v : ℤ) (ws xs : List ℕ) → machineOf q xs (now (marks .entry)) (now (journal .entry)) ≡ executedOf (envOf (now (p .entry)) ws) v (machineOf r xs (now (marks .entry)) (now (journal .entry)))) ⌝ }
 {
     let s = stored_cells(marks, cell_count(p));
-    if fits(s, r.write as usize, journal.len()) {
+    if fits(s, r.write as usize, journal.len(), r.page) {
         r.saving = 1;
         return r;
     }

@@ -1,6 +1,7 @@
 // Whether a state is sound: document 01's list, each part as `soundOf` of specs/State.antt has it.
 use crate::Regs;
 use instruction::opcodes::CHECKPOINT;
+use journal::pages::is_whole;
 use journal::writing::size;
 use marks::stored_cells;
 use program::places::place_at;
@@ -11,7 +12,7 @@ ghost use mathlib.Core.Bool.{_&&_, _||_, cond};
 ghost use mathlib.Core.List.{List};
 ghost use lib.Dec.{eqb, leb};
 ghost use Rattle.program.specs.Places.{Places, isStart, isExclude};
-ghost use Rattle.step.specs.State.{machineOf, zeroFrom, marksFrom, savingSound, soundOf};
+ghost use Rattle.step.specs.State.{machineOf, zeroFrom, marksFrom, pagesSound, savingSound, soundOf};
 
 fn cell_number(x: u32) -> u64
     ensures { λ r. ⌜ (r ≡ x) × (r < 4294967296) ⌝ }
@@ -73,9 +74,26 @@ fn are_marks(marks: &[u8; 256]) -> bool
     sum == 0
 }
 
+// Whether pages have 1 to 16 bytes, and the write position and the bytes to erase are whole pages.
+fn pages_sound(r: Regs) -> bool
+    ensures { λ b. ⌜ b ≡ pagesSound r ⌝ }
+{
+    if r.page == 0 {
+        return false;
+    }
+    if 16 < r.page {
+        return false;
+    }
+    let page = r.page;
+    if !is_whole(r.write as usize, page) {
+        return false;
+    }
+    is_whole(r.erase as usize, page)
+}
+
 // Whether the state may be saving, where it is.
 fn saving_sound(r: Regs, p: &[u8], cells: &[u32; 256], marks: &[u8; 256], len: usize) -> bool
-    requires { ⌜ r .pc < length (now p) ⌝ }
+    requires { ⌜ (r .pc < length (now p)) × (0 < r .page) × (r .page ≤ 16) ⌝ }
     ensures { λ b. ⌜ ((l : List ℕ) → length l ≡ len → b ≡ savingSound (now (p .entry)) (machineOf r (now (cells .entry)) (now (marks .entry)) l)) ⌝ }
 {
     if r.saving == 0 {
@@ -87,9 +105,13 @@ fn saving_sound(r: Regs, p: &[u8], cells: &[u32; 256], marks: &[u8; 256], len: u
     if r.erase != 0 {
         return false;
     }
-    let bytes = size(stored_cells(marks, p[0] as usize + 1));
+    let page = r.page;
+    let bytes = size(stored_cells(marks, p[0] as usize + 1), page);
     let stored = r.saving as usize - 1;
     if bytes <= stored {
+        return false;
+    }
+    if !is_whole(stored, page) {
         return false;
     }
     r.write as usize + (bytes - stored) <= len
@@ -137,6 +159,9 @@ pub fn sound(
         return false;
     }
     if len < r.write as usize + r.erase as usize {
+        return false;
+    }
+    if !pages_sound(r) {
         return false;
     }
     saving_sound(r, p, cells, marks, len)

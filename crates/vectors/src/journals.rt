@@ -35,7 +35,7 @@ fn restored(s: State) {
 // alone, which no row gives.
 fn answer(plan: &[u8], chip: &[u8]) {
     let words = [0u64; 512];
-    let found = recover_value(state(9, 9, 9), plan, &words, chip);
+    let found = recover_value(state(9, 9, 9), plan, &words, chip, 1);
     let answer = found.answer;
     let after = found.state;
     io::write_all(STDOUT_FILENO, b":");

@@ -70,6 +70,7 @@ pub fn state(write: u32, readings: u32, outputs: u32) -> State {
             write,
             erase: 0,
             saving: 0,
+            page: 1,
         },
         cells: [0u32; 256],
         marks: [0u8; 256],

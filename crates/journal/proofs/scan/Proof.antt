@@ -1,27 +1,33 @@
--- `journal::scan` meets its contract: a journal is too long, or what `walk` finds in what `content` keeps is found in it.
+-- `journal::scan` meets its contract: a journal has a length that no chip has, or what `walk` finds in what `content` keeps is found in it.
 -- Assumes nothing.
-use mathlib.Core.Path.{sym}
+use mathlib.Core.Path.{sym, _∙_}
 use native.Mathlib.Omega.{arith}
 use lib.Seq.{length-take-le}
 use borrow.Author.Needs.{needs}
+use borrow.Author.Tests.{not-true, not-false}
+use Rattle.journal.proofs.Paging.{chip-length}
 use Rattle.journal.proofs.Fixed.{scan-is}
-use Rattle.journal.proofs.Joining.{joined, long-scanned}
+use Rattle.journal.proofs.Joining.{joined, unread}
 use Rattle.journal.proofs.scan.Statement.{statement}
 use Rattle.journal.proofs.scan.Tie as tie
+
+is-length-requires : tie.Need-is-length-requires
+is-length-requires c κs = search needs
 
 refused-requires : tie.Need-refused-requires
 refused-requires c κs = search needs
 
 returns : tie.Need-returns
 returns c =
+    let size = c .before .before .is-length in
     let r = c .refused .result in
-    scan-is _ _ (r .answer) (r .values) (long-scanned _ _ r (omega (arith, c .before .if1 .taken)) (c .refused .ensures))
+    scan-is _ _ (r .answer) (r .values) (unread _ _ r (sym (size .ensures) ∙ not-true (size .result) (c .before .if1 .taken)) (c .refused .ensures))
 
 content-requires : tie.Need-content-requires
 content-requires c κs = search needs
 
 slice-aggregate-walk : tie.Need-slice-aggregate-walk
-slice-aggregate-walk c = sym (length-take-le _ (c .before .before .before .before .args .journal .now) (c .before .content .ensures .most))
+slice-aggregate-walk c = sym (length-take-le _ (c .before .before .before .before .before .args .journal .now) (c .before .content .ensures .most))
 
 add-walk : tie.Need-add-walk
 add-walk c = search needs
@@ -29,21 +35,25 @@ add-walk c = search needs
 walk-requires : tie.Need-walk-requires
 walk-requires c κs =
     let t = c .before .content in
-    let s = c .before .before .before .before in
+    let size = c .before .before .before .is-length in
+    let s = c .before .before .before .before .before in
     let n = length-take-le (t .result) (s .args .journal .now) (t .ensures .most) in
-    (omega (arith, n, t .ensures .most, c .before .before .if1 .left), omega (arith, s .fits .highest))
+    let h = chip-length _ _ (sym (size .ensures) ∙ not-false (size .result) (c .before .before .if1 .left)) in
+    (omega (arith, n, t .ensures .most, h .most), omega (arith, s .fits .highest), h .some, h .few)
 
 returns-2 : tie.Need-returns-2
 returns-2 c =
     let at-content = c .before .before in
+    let size = at-content .before .before .is-length in
     let r = c .walk .result in
     scan-is _ _ (r .answer) (r .values)
-    (joined _ (r .answer) (r .values) (omega (arith, at-content .before .if1 .left)) (at-content .content .ensures) (c .walk .ensures))
+    (joined _ (r .answer) (r .values) (sym (size .ensures) ∙ not-false (size .result) (at-content .before .if1 .left)) (at-content .content .ensures) (c .walk .ensures))
 
 pub scan-spec : {M : Type 1} → statement M
 scan-spec =
     tie.close
     (tie.spec
+    is-length-requires
     refused-requires
     returns
     content-requires

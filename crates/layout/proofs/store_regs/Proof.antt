@@ -42,7 +42,7 @@ returns c =
     let s3 = s4 .before .before .before .before in
     let s2 = s3 .before .before .before .before in
     let s1 = s2 .before .before .before .before in
-    regs-stored _ _ (s1 .store32 .ensures) (s2 .store322 .ensures) (s3 .store323 .ensures) (s4 .store324 .ensures) (s5 .store325 .ensures)
+    regs-stored (c .before .before .before .before .before .before .before .before .before .before .before .before .before .before .before .before .before .before .before .before .before .before .before .before .before .before .before .before .before .before .before .before .before .args .r) _ (s1 .store32 .ensures) (s2 .store322 .ensures) (s3 .store323 .ensures) (s4 .store324 .ensures) (s5 .store325 .ensures)
     (s6 .store326 .ensures) (s7 .store327 .ensures) (s8 .store328 .ensures)
 
 pub store-regs-spec : {M : Type 1} → statement M

@@ -8,7 +8,9 @@ use Rattle.machine.proofs.Walking.{feqL, raw, _∵_, !, qed, by, drop, suffices
 use Rattle.machine.proofs.Walking.{of-opd, no-more, assigns, land, returns, enter, alloc1, alloc0, params1, pass1, pass0, free0, Is, shows, RattleType, owns}
 use Rattle.machine.proofs.Walking.{RefT, finally, Room, only, owned, facts, heard, nothing, ℤ, Memory, Routine, Fun, Lfts, Shares, toks, givenOf, tables}
 use Rattle.machine.proofs.Walking.{tablesOf, agg, whole, sub, look-in, FmC, fmOf, WpFn-mono, u8, u64, i32, typesAt, Contract, Triple, Args, Vals, onEntry}
-use Rattle.machine.proofs.Walking.{Meets, tripleOf, entered, cited, says, walkOf, ends-at, walked, walk-meets, Holds, valss, flat}
+use Rattle.machine.proofs.Walking.{Meets, tripleOf, entered, cited, says, walkOf, ends-at, walked, walk-meets, Holds, valss, flat, lit, u32}
+use Rattle.machine.proofs.Walking.{uint-vals, uint-makes, w32, w64}
+use native.Mathlib.Omega.{arith}
 use denote.Struct.Laws as LL
 use denote.Enum.Laws as EL
 use Rattle.step.specs.State.{envOf}
@@ -42,7 +44,7 @@ use Rattle.lent_run.proofs.lend.Code as code
 
 -- the parameters
 abbrev ps : List (Param 5)
-ps = state-of ∷ shared-at 0 tt u8 ∷ shared-at 1 tt u64 ∷ given-at 2 tt u8 ∷ shared-at 3 tt i32 ∷ given-at 4 tt i32 ∷ number-of ∷ []
+ps = state-of ∷ shared-at 0 tt u8 ∷ shared-at 1 tt u64 ∷ given-at 2 tt u8 ∷ shared-at 3 tt i32 ∷ given-at 4 tt i32 ∷ number-of w64 ∷ []
 
 module _ {M : Type 1} (𝓤 : URA M) (H : Heap 𝓤) (A : Atoms 𝓤) (mem : Memory → SProp 𝓤) (go : Routine → Fun 𝓤) where
   -- the contracts that the proof cites
@@ -112,13 +114,14 @@ module _ {M : Type 1} (𝓤 : URA M) (H : Heap 𝓤) (A : Atoms 𝓤) (W : Given
         assigns ! (addr ! (from ! (fld ! refl (hop ! (look-in ! 46 (sub ! 0 refl (whole !))) (stop !))))) (from ! (stop !)) (init ! 24 refl (tt, tt)) $
         assigns ! (agg ! (arg ! 24 refl (and-then ! (load ! (from ! (fld ! refl (stop !))) (look-in ! 46 (sub ! 1 refl (whole !)))) (no-more !))))
         (from ! (stop !)) (init ! 22 refl (slice-fits (room₄ .0))) $
-        -- `recover`: the journal is lent as `&`, and the state
+        -- `recover`: the journal is lent as `&`, and the state; the page length is a literal
         move ! (56 ∷ 57 ∷ []) $ shows-slice u8 journal ! tt (λ β δ. move ! (41 ∷ []) $
-        lends-state ! tt l₈ s is (λ α γ. move ! (0 ∷ 63 ∷ 64 ∷ 3 ∷ 1 ∷ 61 ∷ 62 ∷ 4 ∷ []) $
+        lends-state ! tt l₈ s is (λ α γ. owned ! u32 (Is u32) (uint-makes 𝓤 H A W w32) 1 (uint-vals w32 1) (refl, omega arith) $
+        move ! (1 ∷ 64 ∷ 65 ∷ 4 ∷ 2 ∷ 62 ∷ 63 ∷ 5 ∷ 0 ∷ []) $
         calls ! fm recover.ended (recover.clauses 𝓤 H A mem go) recovers (α ∷ [], (κs .0, (κs .1 .0, (β ∷ [], tt))))
-        (fullShare, (qs .0, (qs .1 .0, (fullShare, tt)))) (local l₈ γ s, (program, (sets, (renamed journal δ (journal .now), tt))))
-        (vptr l₈ 0 ∷ [], (slice program ∷ [], (slice sets ∷ [], (slice journal ∷ [], tt)))) tt tt (id⊢ 𝓤 _) (arg ! 29 refl (arg ! 52 refl (arg ! 50 refl
-        (arg ! 25 refl (no-more !))))) (λ v r₁ z.
+        (fullShare, (qs .0, (qs .1 .0, (fullShare, tt)))) (local l₈ γ s, (program, (sets, (renamed journal δ (journal .now), (1, tt)))))
+        (vptr l₈ 0 ∷ [], (slice program ∷ [], (slice sets ∷ [], (slice journal ∷ [], (uint-vals w32 1, tt))))) tt tt (id⊢ 𝓤 _) (arg ! 29 refl (arg ! 52 refl
+        (arg ! 50 refl (arg ! 25 refl (and-then ! (lit ! tt) (no-more !)))))) (λ v r₁ z.
         -- [0 the tokens of the state, program, sets, journal; 4 what the answer owns; 5 the last values; 6 what is ensured; 7 what is kept of the state, of the
         -- journal; 9 _27; …]
         move ! (6 ∷ []) $ heard ! _ (λ e₁. move ! (4 ∷ []) $ facts ! D.the-row (Is D.the-row) (shows 𝓤 H A D.the-row) r₁ (v ∷ []) (λ ok₁. move ! (4 ∷ []) $

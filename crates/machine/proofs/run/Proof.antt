@@ -9,7 +9,7 @@ use Rattle.machine.proofs.Walking.{look-raw, store-raw, init, hop, fld,
 use Rattle.machine.proofs.Walking.{pass1, pass0, free0, Is, shows, RattleType, owns, RefT, finally, Room, only, owned, facts, heard, nothing, ℤ, Memory}
 use Rattle.machine.proofs.Walking.{Routine, Fun, Lfts, Shares, toks, givenOf, tables, tablesOf, agg, whole, sub, look-in, FmC, fmOf, WpFn-mono, u8, u64}
 use Rattle.machine.proofs.Walking.{i32, typesAt, Contract, Triple, Args, Vals, onEntry, Meets, tripleOf, entered, cited, says, walkOf, ends-at, walked}
-use Rattle.machine.proofs.Walking.{walk-meets, valss, flat}
+use Rattle.machine.proofs.Walking.{walk-meets, valss, flat, w64}
 use denote.Struct.Laws as LL
 use Rattle.step.specs.State.{envOf, machineOf}
 use Rattle.run.specs.Run.{outcome, CallIs}
@@ -33,7 +33,7 @@ use Rattle.machine.proofs.run.Code as code
 
 -- the parameters
 abbrev ps : List (Param 6)
-ps = lent-at 0 tt ∷ shared-at 1 tt u8 ∷ shared-at 2 tt u64 ∷ given-at 3 tt u8 ∷ shared-at 4 tt i32 ∷ given-at 5 tt i32 ∷ number-of ∷ []
+ps = lent-at 0 tt ∷ shared-at 1 tt u8 ∷ shared-at 2 tt u64 ∷ given-at 3 tt u8 ∷ shared-at 4 tt i32 ∷ given-at 5 tt i32 ∷ number-of w64 ∷ []
 
 -- the contract that the proof cites
 abbrev Inner : {M : Type 1} (𝓤 : URA M) (H : Heap 𝓤) (A : Atoms 𝓤) (mem : Memory → SProp 𝓤) (go : Routine → Fun 𝓤) → Contract 𝓤

@@ -15,12 +15,12 @@ start c = c .before .before .before .before
 -- what is known when scan has answered
 answers : (c : tie.After-scan)
     → let s = start (c .before .before) .args in
-    Answered (s .program .now) (s .sets .now) (s .table .now) (s .journal .now) (c .scan .result .answer) (c .scan .result .values)
+    Answered (s .page) (s .program .now) (s .sets .now) (s .table .now) (s .journal .now) (c .scan .result .answer) (c .scan .result .values)
 answers c =
     let long = c .before .before in
     let s = start long in
     let words : 512 ≤ length (s .args .sets .now) = omega (arith, long .if1 .left) in
-    answered _ _ _ _ (s .pre .0) (s .pre .1) words (c .before .byte-at .ensures) (c .scan .ensures .scans)
+    answered (s .args .page) _ _ _ _ (s .pre .0) (s .pre .1) words (c .before .byte-at .ensures) (c .scan .ensures .scans)
 
 refused-requires : tie.Need-refused-requires
 refused-requires c κs = search needs
@@ -28,7 +28,7 @@ refused-requires c κs = search needs
 returns : tie.Need-returns
 returns c =
     let s = c .before .before .before .before .before in
-    rw (c .refused .ensures) (refused-words _ _ _ (s .pre .0) (omega (arith, c .before .if1 .taken)))
+    rw (c .refused .ensures) (refused-words _ _ _ _ (s .pre .0) (omega (arith, c .before .if1 .taken)))
 
 byte-at-requires : tie.Need-byte-at-requires
 byte-at-requires c κs = search needs

@@ -18,26 +18,21 @@ cast-fits c = search needs
 fits-requires : tie.Need-fits-requires
 fits-requires c κs = search needs
 
-returns : tie.Need-returns
-returns c v ws xs =
-    let cells = c .before .before .before in
-    let s = cells .before .before .before .before in
-    begins _ ws v _ xs _ _ (s .pre .1)
-    (sym (fits-same _ _ xs _ _ (cells .before .cell-count .ensures .0) (cells .stored-cells .ensures) (c .before .fits2 .ensures)) ∙ c .if1 .taken)
-
 cast-after : tie.Need-cast-after
 cast-after c = search needs
 
 after-requires : tie.Need-after-requires
 after-requires c κs = search needs
 
+returns : tie.Need-returns
+returns c v ws xs =
+    begins _ ws v _ xs _ _ (c .before .before .before .before .before .before .before .pre .1)
+    (sym (fits-same _ _ xs _ _ (c .before .before .before .before .cell-count .ensures .0) (c .before .before .before .stored-cells .ensures) (c .before .fits2 .ensures)) ∙ c .if1 .taken)
+
 returns-2 : tie.Need-returns-2
 returns-2 c v ws xs =
-    let at-if1 = c .before .before in
-    let cells = at-if1 .before .before .before in
-    let s = cells .before .before .before .before in
-    passes _ ws v _ xs _ _ (s .pre .1) (s .pre .2)
-    (sym (fits-same _ _ xs _ _ (cells .before .cell-count .ensures .0) (cells .stored-cells .ensures) (at-if1 .before .fits2 .ensures)) ∙ at-if1 .if1 .left)
+    passes _ ws v _ xs _ _ (c .before .before .before .before .before .before .before .before .before .pre .1) (c .before .before .before .before .before .before .before .before .before .pre .2)
+    (sym (fits-same _ _ xs _ _ (c .before .before .before .before .before .before .cell-count .ensures .0) (c .before .before .before .before .before .stored-cells .ensures) (c .before .before .before .fits2 .ensures)) ∙ c .before .before .if1 .left)
     (c .after .ensures)
 
 pub begin-save-spec : {M : Type 1} → statement M

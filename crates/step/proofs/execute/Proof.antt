@@ -51,7 +51,7 @@ exclude-all-requires c κs =
 begin-save-requires : tie.Need-begin-save-requires
 begin-save-requires c κs =
     let s = c .before .before .before .before .before .before .before .before .before .before in
-    (omega (arith, start-small (s .pre .0) _ (sound-facts (s .pre .1 .sound) .stands)), c .before .match .keys5, s .pre .2)
+    (omega (arith, start-small (s .pre .0) _ (sound-facts (s .pre .1 .sound) .stands)), c .before .match .keys5, s .pre .2, sound-facts (s .pre .1 .sound) .paged .some, sound-facts (s .pre .1 .sound) .paged .few)
 
 stop-requires-2 : tie.Need-stop-requires-2
 stop-requires-2 c κs = search needs

@@ -3,7 +3,7 @@
 use mir.Facts.{toZ-ofZ}
 use Rattle.step.proofs.Facts.{sound-facts}
 use Rattle.step.proofs.Fetching.{ready-accepted}
-use Rattle.step.proofs.Stepping.{erases, stores, executes}
+use Rattle.step.proofs.Stepping.{erasable, erases, stores, executes}
 use borrow.Author.Needs.{needs}
 use Rattle.step.proofs.step.Statement.{statement}
 use Rattle.step.proofs.step.Tie as tie
@@ -11,7 +11,7 @@ use Rattle.step.proofs.step.Tie as tie
 erase-one-requires : tie.Need-erase-one-requires
 erase-one-requires c κs =
     let s = c .before .before .before .before .before .before in
-    (c .before .if1 .taken, sound-facts (s .pre .1 .sound) .fits, s .pre .1 .most)
+    (erasable (s .pre .1) (c .before .if1 .taken), sound-facts (s .pre .1 .sound) .fits, s .pre .1 .most)
 
 same-length : tie.Need-same-length
 same-length c = search needs

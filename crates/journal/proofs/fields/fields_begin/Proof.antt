@@ -18,16 +18,16 @@ fields-whole-requires : tie.Need-fields-whole-requires
 fields-whole-requires c κs = search needs
 
 returns : tie.Need-returns
-returns c n = c .fields-whole .ensures n
+returns c G n = c .fields-whole .ensures G n
 
 offset-begins-requires : tie.Need-offset-begins-requires
 offset-begins-requires c κs = search needs
 
 returns-2 : tie.Need-returns-2
-returns-2 c n f =
+returns-2 c G n f =
     let s = c .before .before .before .before in
     let d = c .before .offset-begins in
-    decides-no (d .result) (not-true (d .result) (c .if2 .taken)) (d .ensures n) (fields-parts (s .args .l .now) (s .args .i) f .place)
+    decides-no (d .result) (not-true (d .result) (c .if2 .taken)) (d .ensures G n) (fields-parts (s .args .l .now) (s .args .i) f .place)
 
 add-offset-begins : tie.Need-add-offset-begins
 add-offset-begins c = search needs
@@ -36,10 +36,10 @@ offset-begins-requires-2 : tie.Need-offset-begins-requires-2
 offset-begins-requires-2 c κs = search needs
 
 returns-3 : tie.Need-returns-3
-returns-3 c n f =
+returns-3 c G n f =
     let s = c .before .before .before .before .before .before in
     let d = c .before .offset-begins2 in
-    decides-no (d .result) (not-true (d .result) (c .if3 .taken)) (d .ensures n) (fields-parts (s .args .l .now) (s .args .i) f .exclude)
+    decides-no (d .result) (not-true (d .result) (c .if3 .taken)) (d .ensures G n) (fields-parts (s .args .l .now) (s .args .i) f .exclude)
 
 add-count-begins : tie.Need-add-count-begins
 add-count-begins c = search needs
@@ -48,7 +48,7 @@ count-begins-requires : tie.Need-count-begins-requires
 count-begins-requires c κs = search needs
 
 returns-4 : tie.Need-returns-4
-returns-4 c n f =
+returns-4 c G n f =
     let s = c .before .before .before .before .before .before .before .before in
     let d = c .before .count-begins in
     decides-no (d .result) (not-true (d .result) (c .if4 .taken)) (d .ensures) (fields-parts (s .args .l .now) (s .args .i) f .readings)
@@ -60,13 +60,13 @@ count-begins-requires-2 : tie.Need-count-begins-requires-2
 count-begins-requires-2 c κs = search needs
 
 returns-5 : tie.Need-returns-5
-returns-5 c n f =
+returns-5 c G n f =
     let s = c .before .before .before .before .before .before .before .before .before .before in
     let d = c .before .count-begins2 in
     decides-no (d .result) (not-true (d .result) (c .if5 .taken)) (d .ensures) (fields-parts (s .args .l .now) (s .args .i) f .outputs)
 
 returns-6 : tie.Need-returns-6
-returns-6 c n =
+returns-6 c G n =
     let s = c .before .before .before .before .before .before .before .before .before .before in
     let p = c .before .before .before .before .before .before .before .offset-begins in
     let x = c .before .before .before .before .before .offset-begins2 in
@@ -74,8 +74,8 @@ returns-6 c n =
     let o = c .before .count-begins2 in
     parts-fields (s .args .l .now) (s .args .i)
     (record {
-      place = decides-yes (p .result) (not-false (p .result) (c .before .before .before .before .before .before .if2 .left)) (p .ensures n);
-      exclude = decides-yes (x .result) (not-false (x .result) (c .before .before .before .before .if3 .left)) (x .ensures n);
+      place = decides-yes (p .result) (not-false (p .result) (c .before .before .before .before .before .before .if2 .left)) (p .ensures G n);
+      exclude = decides-yes (x .result) (not-false (x .result) (c .before .before .before .before .if3 .left)) (x .ensures G n);
       readings = decides-yes (r .result) (not-false (r .result) (c .before .before .if4 .left)) (r .ensures);
       outputs = decides-yes (o .result) (not-false (o .result) (c .if5 .left)) (o .ensures);
       end = past-meets (0x5A ∷ []) (s .args .l .now) (s .args .i + 12) (omega arith);

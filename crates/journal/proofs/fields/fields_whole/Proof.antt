@@ -6,6 +6,7 @@ use Prim.Native.Nat.{ℕ, _+_}
 use lib.ListN.{drop}
 use borrow.Author.Tests.{not-true, not-false}
 use borrow.Author.Needs.{needs}
+use Rattle.journal.specs.Format.{Format}
 use Rattle.journal.specs.Answer.{factsIn}
 use Rattle.journal.specs.Parts.{Meets, Fields}
 use Rattle.journal.proofs.Meeting.{decides-yes, decides-no}
@@ -17,10 +18,10 @@ offset-whole-requires : tie.Need-offset-whole-requires
 offset-whole-requires c κs = search needs
 
 returns : tie.Need-returns
-returns c n f =
+returns c G n f =
     let s = c .before .before .before in
     let d = c .before .offset-whole in
-    decides-no (d .result) (not-true (d .result) (c .if1 .taken)) (d .ensures n) (fields-parts (s .args .l .now) (s .args .i) f .place)
+    decides-no (d .result) (not-true (d .result) (c .if1 .taken)) (d .ensures G n) (fields-parts (s .args .l .now) (s .args .i) f .place)
 
 add-offset-whole : tie.Need-add-offset-whole
 add-offset-whole c = search needs
@@ -29,10 +30,10 @@ offset-whole-requires-2 : tie.Need-offset-whole-requires-2
 offset-whole-requires-2 c κs = search needs
 
 returns-2 : tie.Need-returns-2
-returns-2 c n f =
+returns-2 c G n f =
     let s = c .before .before .before .before .before in
     let d = c .before .offset-whole2 in
-    decides-no (d .result) (not-true (d .result) (c .if2 .taken)) (d .ensures n) (fields-parts (s .args .l .now) (s .args .i) f .exclude)
+    decides-no (d .result) (not-true (d .result) (c .if2 .taken)) (d .ensures G n) (fields-parts (s .args .l .now) (s .args .i) f .exclude)
 
 add-count-whole : tie.Need-add-count-whole
 add-count-whole c = search needs
@@ -41,7 +42,7 @@ count-whole-requires : tie.Need-count-whole-requires
 count-whole-requires c κs = search needs
 
 returns-3 : tie.Need-returns-3
-returns-3 c n f =
+returns-3 c G n f =
     let s = c .before .before .before .before .before .before .before in
     let d = c .before .count-whole in
     decides-no (d .result) (not-true (d .result) (c .if3 .taken)) (d .ensures) (fields-parts (s .args .l .now) (s .args .i) f .readings)
@@ -53,15 +54,15 @@ count-whole-requires-2 : tie.Need-count-whole-requires-2
 count-whole-requires-2 c κs = search needs
 
 returns-4 : tie.Need-returns-4
-returns-4 c n f =
+returns-4 c G n f =
     let s = c .before .before .before .before .before .before .before .before .before in
     let d = c .before .count-whole2 in
     decides-no (d .result) (not-true (d .result) (c .if4 .taken)) (d .ensures) (fields-parts (s .args .l .now) (s .args .i) f .outputs)
 
 -- the four numbers are begun
-all-four : (c : tie.Else4) (n : ℕ) → let a = c .before .before .before .before .before .before .before .before .before .args in
-    Meets (0x5A ∷ []) (drop (a .i + 12) (a .l .now)) → Fields (factsIn n (a .table .now)) (a .last) (drop (a .i) (a .l .now))
-all-four c n m =
+all-four : (c : tie.Else4) (G : Format) (n : ℕ) → let a = c .before .before .before .before .before .before .before .before .before .args in
+    Meets (0x5A ∷ []) (drop (a .i + 12) (a .l .now)) → Fields (factsIn G n (a .table .now)) (a .last) (drop (a .i) (a .l .now))
+all-four c G n m =
     let s = c .before .before .before .before .before .before .before .before .before in
     let p = c .before .before .before .before .before .before .before .offset-whole in
     let x = c .before .before .before .before .before .offset-whole2 in
@@ -69,8 +70,8 @@ all-four c n m =
     let o = c .before .count-whole2 in
     parts-fields (s .args .l .now) (s .args .i)
     (record {
-      place = decides-yes (p .result) (not-false (p .result) (c .before .before .before .before .before .before .if1 .left)) (p .ensures n);
-      exclude = decides-yes (x .result) (not-false (x .result) (c .before .before .before .before .if2 .left)) (x .ensures n);
+      place = decides-yes (p .result) (not-false (p .result) (c .before .before .before .before .before .before .if1 .left)) (p .ensures G n);
+      exclude = decides-yes (x .result) (not-false (x .result) (c .before .before .before .before .if2 .left)) (x .ensures G n);
       readings = decides-yes (r .result) (not-false (r .result) (c .before .before .if3 .left)) (r .ensures);
       outputs = decides-yes (o .result) (not-false (o .result) (c .if4 .left)) (o .ensures);
       end = m;
@@ -83,9 +84,9 @@ shared-slice-read-result : tie.Need-shared-slice-read-result
 shared-slice-read-result c = search needs
 
 returns-5 : tie.Need-returns-5
-returns-5 c n =
+returns-5 c G n =
     let s = c .before .before .before .before .before .before .before .before .before .before in
-    last-decides (s .args .l .now) (s .args .i) (omega arith) (all-four (c .before) n)
+    last-decides (s .args .l .now) (s .args .i) (omega arith) (all-four (c .before) G n)
 
 pub fields-whole-spec : {M : Type 1} → statement M
 fields-whole-spec =

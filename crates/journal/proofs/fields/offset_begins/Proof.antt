@@ -11,10 +11,10 @@ some-offset-requires : tie.Need-some-offset-requires
 some-offset-requires c κs = search needs
 
 returns : tie.Need-returns
-returns c n =
+returns c G n =
     let s = c .before .before .before in
-    offset-nothing (factsIn n (s .args .table .now)) (s .args .excludes) (s .args .l .now) (s .args .i) (c .some-offset .result)
-    (c .before .if1 .taken) (c .some-offset .ensures n)
+    offset-nothing (factsIn G n (s .args .table .now)) (s .args .excludes) (s .args .l .now) (s .args .i) (c .some-offset .result)
+    (c .before .if1 .taken) (c .some-offset .ensures G n)
 
 add-if2 : tie.Need-add-if2
 add-if2 c = search needs
@@ -29,10 +29,10 @@ some-offset-requires-2 : tie.Need-some-offset-requires-2
 some-offset-requires-2 c κs = (c .shared-slice-known2 .given (c .before .before .before .before .args .i) .fits, omega arith)
 
 returns-2 : tie.Need-returns-2
-returns-2 c n =
+returns-2 c G n =
     let s = c .before .before .before .before .before in
-    offset-low (factsIn n (s .args .table .now)) (s .args .excludes) (s .args .l .now) (s .args .i) (c .some-offset2 .result)
-    (c .before .before .before .if1 .left) (c .before .before .if2 .taken) (c .some-offset2 .ensures n)
+    offset-low (factsIn G n (s .args .table .now)) (s .args .excludes) (s .args .l .now) (s .args .i) (c .some-offset2 .result)
+    (c .before .before .before .if1 .left) (c .before .before .if2 .taken) (c .some-offset2 .ensures G n)
 
 load16-requires : tie.Need-load16-requires
 load16-requires c κs = search needs
@@ -44,11 +44,11 @@ offset-is-requires : tie.Need-offset-is-requires
 offset-is-requires c κs = search needs
 
 returns-3 : tie.Need-returns-3
-returns-3 c n =
+returns-3 c G n =
     let s = c .before .before .before .before .before in
-    offset-whole (factsIn n (s .args .table .now)) (s .args .excludes) (s .args .l .now) (s .args .i) (c .offset-is .result)
+    offset-whole (factsIn G n (s .args .table .now)) (s .args .excludes) (s .args .l .now) (s .args .i) (c .offset-is .result)
     (λ k. c .before .before .before .before .shared-slice-known .given k .fits) (c .before .before .if2 .left)
-    (c .before .load16 .ensures) (c .offset-is .ensures n)
+    (c .before .load16 .ensures) (c .offset-is .ensures G n)
 
 pub offset-begins-spec : {M : Type 1} → statement M
 offset-begins-spec =

@@ -17,11 +17,11 @@ offset-is-requires : tie.Need-offset-is-requires
 offset-is-requires c κs = search needs
 
 returns : tie.Need-returns
-returns c n =
+returns c G n =
     let s = c .before .before .before in
-    offset-whole (factsIn n (s .args .table .now)) (s .args .excludes) (s .args .l .now) (s .args .i) (c .offset-is .result)
+    offset-whole (factsIn G n (s .args .table .now)) (s .args .excludes) (s .args .l .now) (s .args .i) (c .offset-is .result)
     (λ k. c .before .before .shared-slice-known .given k .fits) (omega arith)
-    (c .before .load16 .ensures) (c .offset-is .ensures n)
+    (c .before .load16 .ensures) (c .offset-is .ensures G n)
 
 pub offset-whole-spec : {M : Type 1} → statement M
 offset-whole-spec = tie.close (tie.spec load16-requires cast-offset-is offset-is-requires returns)

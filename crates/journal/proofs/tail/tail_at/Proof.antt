@@ -18,17 +18,17 @@ some-offset-requires : tie.Need-some-offset-requires
 some-offset-requires c κs = search needs
 
 returns : tie.Need-returns
-returns c rs o s =
+returns c G rs o s =
     let a = c .before .before .before .before in
     let some = c .before .some-offset in
-    none-cut (a .args .l .now) (a .args .i) (some .result) (c .before .before .if1 .taken) (some .ensures (a .args .n)) (c .if2 .taken) (readings-fit a)
+    none-cut (a .args .l .now) (a .args .i) (some .result) (c .before .before .if1 .taken) (some .ensures G (a .args .n)) (c .if2 .taken) (readings-fit a)
     (outputs-fit a) o
 
 returns-2 : tie.Need-returns-2
-returns-2 c rs o s =
+returns-2 c G rs o s =
     let a = c .before .before .before .before in
     let some = c .before .some-offset in
-    no-place (some .result) (some .ensures (a .args .n)) (c .if2 .left)
+    no-place (some .result) (some .ensures G (a .args .n)) (c .if2 .left)
 
 shared-slice-read-if3 : tie.Need-shared-slice-read-if3
 shared-slice-read-if3 c = search needs
@@ -40,34 +40,34 @@ fields-begin-requires : tie.Need-fields-begin-requires
 fields-begin-requires c κs = search needs
 
 returns-3 : tie.Need-returns-3
-returns-3 c rs o s =
+returns-3 c G rs o s =
     let a = c .before .before .before .before .before .before in
     let fields = c .before .fields-begin in
     commit-bad (a .args .l .now) (a .args .i) (fields .result) (c .before .before .before .before .if1 .left) (c .before .before .if3 .taken)
-    (fields .ensures (a .args .n)) (not-true (fields .result) (c .if4 .taken))
+    (fields .ensures G (a .args .n)) (not-true (fields .result) (c .if4 .taken))
 
 add-if5 : tie.Need-add-if5
 add-if5 c = search needs
 
 returns-4 : tie.Need-returns-4
-returns-4 c rs o s =
+returns-4 c G rs o s =
     let a = c .before .before .before .before .before .before .before in
     let fields = c .before .before .fields-begin in
     commit-cut (a .args .l .now) (a .args .i) (fields .result) (c .before .before .before .before .before .if1 .left)
-    (c .before .before .before .if3 .taken) (fields .ensures (a .args .n)) (not-false (fields .result) (c .before .if4 .left)) (c .if5 .taken) o
+    (c .before .before .before .if3 .taken) (fields .ensures G (a .args .n)) (not-false (fields .result) (c .before .if4 .left)) (c .if5 .taken) o
 
 returns-5 : tie.Need-returns-5
-returns-5 c rs o s =
+returns-5 c G rs o s =
     let a = c .before .before .before .before .before .before .before in
     let fields = c .before .before .fields-begin in
-    commit-whole (a .args .l .now) (a .args .i) (fields .result) (c .before .before .before .if3 .taken) (fields .ensures (a .args .n))
+    commit-whole (a .args .l .now) (a .args .i) (fields .result) (c .before .before .before .if3 .taken) (fields .ensures G (a .args .n))
     (not-false (fields .result) (c .before .if4 .left)) (c .if5 .left)
 
 shared-slice-read-if6 : tie.Need-shared-slice-read-if6
 shared-slice-read-if6 c = search needs
 
 returns-6 : tie.Need-returns-6
-returns-6 c rs o s =
+returns-6 c G rs o s =
     let a = c .before .before .before .before .before .before in
     other-bad (a .args .l .now) (a .args .i) (c .before .before .before .before .if1 .left) (c .before .before .if3 .left) (c .if6 .taken)
 
@@ -75,10 +75,10 @@ some-offset-requires-2 : tie.Need-some-offset-requires-2
 some-offset-requires-2 c κs = search needs
 
 returns-7 : tie.Need-returns-7
-returns-7 c rs o s =
+returns-7 c G rs o s =
     let a = c .before .before .before .before .before .before .before .before in
     let some = c .before .some-offset2 in
-    no-place (some .result) (some .ensures (a .args .n)) (not-true (some .result) (c .if7 .taken))
+    no-place (some .result) (some .ensures G (a .args .n)) (not-true (some .result) (c .if7 .taken))
 
 add-cell-begins : tie.Need-add-cell-begins
 add-cell-begins c = search needs
@@ -87,18 +87,18 @@ cell-begins-requires : tie.Need-cell-begins-requires
 cell-begins-requires c κs = search needs
 
 returns-8 : tie.Need-returns-8
-returns-8 c rs o s =
+returns-8 c G rs o s =
     let test = c .before .before .before .before in
     let within = test .before .before .before .before in
     let a = within .before .before in
     let some = c .before .before .before .some-offset2 in
     let cell = c .before .cell-begins in
     record-cut (a .args .l .now) (a .args .i) (a .args .stamp) (a .args .seen .now) (some .result) (cell .result) (within .if1 .left) (test .if6 .left)
-    (a .pre .2) (λ k. within .before .shared-slice-known .given k .fits) (a .pre .3) (some .ensures (a .args .n))
+    (a .pre .2) (λ k. within .before .shared-slice-known .given k .fits) (a .pre .3) (some .ensures G (a .args .n))
     (not-false (some .result) (c .before .before .if7 .left)) (readings-fit a) (outputs-fit a) (cell .ensures) (c .if8 .taken) o s
 
 returns-9 : tie.Need-returns-9
-returns-9 c rs o s =
+returns-9 c G rs o s =
     let test = c .before .before .before .before in
     let within = test .before .before .before .before in
     let a = within .before .before in

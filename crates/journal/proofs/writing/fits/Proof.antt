@@ -3,8 +3,8 @@
 use mathlib.Core.Path.{_∙_, ap}
 use Prim.Native.Nat.{ℕ, _+_}
 use lib.Dec.{leb}
-use borrow.Author.Needs.{needs}
 use Rattle.journal.proofs.Written.{no-room, room}
+use borrow.Author.Needs.{needs}
 use Rattle.journal.proofs.writing.fits.Statement.{statement}
 use Rattle.journal.proofs.writing.fits.Tie as tie
 

@@ -1,7 +1,8 @@
--- `journal::writing::image_byte` meets its contract: the byte is one of a record, or one of the commit.
+-- `journal::writing::image_byte` meets its contract: the byte is one of a record, or one of the commit, or filling.
 -- Assumes nothing.
+use native.Mathlib.Omega.{arith}
+use Rattle.journal.proofs.Written.{image-record, image-commit, image-past}
 use borrow.Author.Needs.{needs}
-use Rattle.journal.proofs.Written.{image-record, image-commit}
 use Rattle.journal.proofs.writing.image_byte.Statement.{statement}
 use Rattle.journal.proofs.writing.image_byte.Tie as tie
 
@@ -14,15 +15,23 @@ cast-records c = search needs
 mul-records : tie.Need-mul-records
 mul-records c = search needs
 
-commit-byte-requires : tie.Need-commit-byte-requires
-commit-byte-requires c κs = search needs
+add-if1 : tie.Need-add-if1
+add-if1 c = search needs
 
 returns : tie.Need-returns
 returns c =
-    let at-count = c .before .before in
+    let s = c .before .before .args in
+    image-past (s .s .words) (s .values .now) (s .c) (s .k) (c .before .count .ensures) (c .if1 .taken)
+
+commit-byte-requires : tie.Need-commit-byte-requires
+commit-byte-requires c κs = search needs
+
+returns-2 : tie.Need-returns-2
+returns-2 c =
+    let at-count = c .before .before .before in
     let s = at-count .before .args in
     image-commit (s .s .words) (s .values .now) (s .c) (at-count .count .result) (s .k) (c .commit-byte .result)
-    (at-count .count .ensures) (c .before .if1 .taken) (c .commit-byte .ensures)
+    (at-count .count .ensures) (c .before .if2 .taken) (omega (arith, c .before .before .if1 .left)) (c .commit-byte .ensures)
 
 cast-nth : tie.Need-cast-nth
 cast-nth c = search needs
@@ -42,13 +51,13 @@ element-copy-out-record-byte c = search needs
 record-byte-requires : tie.Need-record-byte-requires
 record-byte-requires c κs = search needs
 
-returns-2 : tie.Need-returns-2
-returns-2 c =
+returns-3 : tie.Need-returns-3
+returns-3 c =
     let at-nth = c .before .before in
-    let at-count = at-nth .before .before in
+    let at-count = at-nth .before .before .before in
     let s = at-count .before .args in
     image-record (s .s .words) (s .values .now) (s .c) (at-count .count .result) (s .k) (c .record-byte .result)
-    (at-count .count .ensures) (at-nth .nth .result) (at-nth .before .if1 .left) (at-nth .nth .ensures) (c .record-byte .ensures)
+    (at-count .count .ensures) (at-nth .nth .result) (at-nth .before .if2 .left) (at-nth .nth .ensures) (c .record-byte .ensures)
 
 pub image-byte-spec : {M : Type 1} → statement M
 image-byte-spec =
@@ -57,12 +66,14 @@ image-byte-spec =
     count-requires
     cast-records
     mul-records
-    commit-byte-requires
+    add-if1
     returns
+    commit-byte-requires
+    returns-2
     cast-nth
     nth-requires
     cast-record-byte
     mul-record-byte
     element-copy-out-record-byte
     record-byte-requires
-    returns-2)
+    returns-3)

@@ -10,21 +10,21 @@ use Rattle.journal.proofs.writing.image_into.Statement.{statement}
 use Rattle.journal.proofs.writing.image_into.Tie as tie
 
 abbrev Inv-loop : tie.InvT-loop
-Inv-loop buffer₀ s values c n at₀ cell₀ buffer at cell = Filling (s .words) values c buffer₀ buffer at cell
+Inv-loop buffer₀ values c n page words at₀ cell₀ buffer at cell = Filling words values c buffer₀ buffer at cell
 
 abbrev μ-loop : tie.MeasureT-loop
-μ-loop buffer₀ s values c n at₀ cell₀ buffer at cell = n - cell
+μ-loop buffer₀ values c n page words at₀ cell₀ buffer at cell = n - cell
 
 loop-holds : tie.Need-loop-holds Inv-loop μ-loop
 loop-holds c =
-    let s = c .args in
-    filling-first (s .s .words) (s .values .now) (s .c) (s .buffer .now)
+    let a = c .before .args in
+    filling-first (a .s .words) (a .values .now) (a .c) (a .buffer .now)
 
-cast-contains : tie.Need-cast-contains Inv-loop μ-loop
-cast-contains c = search needs
+cast-is-in : tie.Need-cast-is-in Inv-loop μ-loop
+cast-is-in c = search needs
 
-contains-requires : tie.Need-contains-requires Inv-loop μ-loop
-contains-requires c κs = search needs
+is-in-requires : tie.Need-is-in-requires Inv-loop μ-loop
+is-in-requires c κs = search needs
 
 cast-record-into : tie.Need-cast-record-into Inv-loop μ-loop
 cast-record-into c = search needs
@@ -49,9 +49,9 @@ loop-less c = search needs
 
 loop-again : tie.Need-loop-again Inv-loop μ-loop
 loop-again c =
-    let contained = c .before .contains .ensures in
-    let below : c .before .before .before .loop .cell < 256 = omega (arith, c .before .before .loop-test .taken, c .before .before .before .before .pre .0) in
-    let f = c .before .before .before .loop .inv in
+    let contained = c .before .is-in .ensures in
+    let below : c .before .before .before .before .loop .cell < 256 = omega (arith, c .before .before .before .loop-test .taken, c .before .before .before .before .before .before .pre .0) in
+    let f = c .before .before .before .before .loop .inv in
     ⊎-elim
     (λ came. filling-in f below (sym contained ∙ came .0 .taken) (came .4 ∙ came .3 .ensures) (came .5))
     (λ came. filling-out f below (sym contained ∙ came .0 .left) (came .1) (came .2))
@@ -60,14 +60,21 @@ loop-again c =
 commit-into-requires : tie.Need-commit-into-requires Inv-loop μ-loop
 commit-into-requires c κs = search needs
 
-add-result : tie.Need-add-result Inv-loop μ-loop
-add-result c = search needs
+add-end : tie.Need-add-end Inv-loop μ-loop
+add-end c = search needs
+
+fill-requires : tie.Need-fill-requires Inv-loop μ-loop
+fill-requires c κs = c .before .before .before .before .before .pre .2
+
+add-total : tie.Need-add-total Inv-loop μ-loop
+add-total c = omega (arith, c .fill .ensures .1, c .before .before .before .before .before .before .pre .3, c .before .before .before .before .loop .inv .most, c .before .before .before .before .loop .inv .below)
+
+fill-into-requires : tie.Need-fill-into-requires Inv-loop μ-loop
+fill-into-requires c κs = omega (arith, c .before .fill .ensures .1, c .before .before .before .before .before .before .before .pre .3, c .before .before .before .before .before .loop .inv .most, c .before .before .before .before .before .loop .inv .below)
 
 returns : tie.Need-returns Inv-loop μ-loop
 returns c =
-    let after-loop = c .before .before in
-    let start = after-loop .before .before in
-    filling-done (after-loop .before .loop .inv) (after-loop .loop-test .left) (start .pre .1) (c .commit-into .ensures)
+    filling-done (c .before .before .before .before .before .before .loop .inv) (c .before .before .before .before .before .loop-test .left) (c .before .before .before .before .before .before .before .before .pre .1) (c .before .before .before .before .before .before .before .before .args .page) (c .before .before .before .commit-into .ensures) (c .before .before .fill .ensures .0) (c .fill-into .ensures)
 
 pub image-into-spec : {M : Type 1} → statement M
 image-into-spec =
@@ -76,8 +83,8 @@ image-into-spec =
     Inv-loop
     μ-loop
     loop-holds
-    cast-contains
-    contains-requires
+    cast-is-in
+    is-in-requires
     cast-record-into
     mul-record-into
     element-copy-out-record-into
@@ -87,5 +94,8 @@ image-into-spec =
     loop-less
     loop-again
     commit-into-requires
-    add-result
+    add-end
+    fill-requires
+    add-total
+    fill-into-requires
     returns)

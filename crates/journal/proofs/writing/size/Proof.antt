@@ -1,26 +1,35 @@
--- `journal::writing::size` meets its contract: six bytes for each cell, and 14 for the commit.
+-- `journal::writing::size` meets its contract: six bytes for each cell, 14 for the commit, and the filling.
 -- Assumes nothing.
-use mathlib.Core.Path.{sym, _∙_, ap}
+use mathlib.Core.Path.{ap}
 use Prim.Native.Nat.{ℕ, _+_, _*_}
+use Rattle.journal.proofs.Written.{stored-length}
 use borrow.Author.Needs.{needs}
-use Rattle.journal.proofs.Written.{image-length}
 use Rattle.journal.proofs.writing.size.Statement.{statement}
 use Rattle.journal.proofs.writing.size.Tie as tie
 
 count-requires : tie.Need-count-requires
 count-requires c κs = search needs
 
-cast-result : tie.Need-cast-result
-cast-result c = search needs
+cast-bytes : tie.Need-cast-bytes
+cast-bytes c = search needs
 
-mul-result : tie.Need-mul-result
-mul-result c = search needs
+mul-bytes : tie.Need-mul-bytes
+mul-bytes c = search needs
+
+add-bytes : tie.Need-add-bytes
+add-bytes c = search needs
+
+fill-requires : tie.Need-fill-requires
+fill-requires c κs = search needs
 
 add-result : tie.Need-add-result
 add-result c = search needs
 
 returns : tie.Need-returns
-returns c values d = ap (λ (n : ℕ). 6 * n + 14) (c .count .ensures) ∙ sym (image-length (c .before .args .s .words) values d)
+returns c values d =
+    stored-length _ (c .before .before .args .s .words) values d (ap (λ (n : ℕ). 6 * n + 14) (c .before .count .ensures)) (c .fill .ensures .0)
 
 pub size-spec : {M : Type 1} → statement M
-size-spec = tie.close (tie.spec count-requires cast-result mul-result add-result returns)
+size-spec =
+    tie.close
+    (tie.spec count-requires cast-bytes mul-bytes add-bytes fill-requires add-result returns)

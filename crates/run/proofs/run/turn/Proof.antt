@@ -64,7 +64,9 @@ add-t26 c =
     omega (arith, counted q .taken, start q .pre .3)
 
 cast-t27 : tie.Need-cast-t27
-cast-t27 c = search needs
+cast-t27 c =
+    let q = c .before .before .before .before .before .before .before .before .before .before .before .before .before .before in
+    omega (arith, counted q .written)
 
 add-t28 : tie.Need-add-t28
 add-t28 c =

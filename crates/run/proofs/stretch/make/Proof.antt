@@ -1,9 +1,9 @@
 -- `run::stretch::make` meets its contract.
 -- Assumes nothing.
-use borrow.Author.Needs.{needs}
 use Rattle.marks.proofs.Laws.{stored-none}
 use Rattle.step.proofs.Stepping.{place-fits}
 use Rattle.run.proofs.Stretching.{makes}
+use borrow.Author.Needs.{needs}
 use Rattle.run.proofs.stretch.make.Statement.{statement}
 use Rattle.run.proofs.stretch.make.Tie as tie
 
@@ -26,18 +26,13 @@ cast-t12 : tie.Need-cast-t12
 cast-t12 c = search needs
 
 image-into-requires : tie.Need-image-into-requires
-image-into-requires c κs =
-    let cells = c .before .before .before .before in
-    (cells .before .cell-count .ensures .1, stored-none _ (cells .before .before .before .args .marks .now) (cells .stored-cells .ensures))
+image-into-requires c κs = (c .before .before .before .before .before .cell-count .ensures .1, stored-none _ (c .before .before .before .before .before .before .before .args .marks .now) (c .before .before .before .before .stored-cells .ensures), c .before .before .before .before .before .before .before .pre .3, c .before .before .before .before .before .before .before .pre .4)
 
 returns : tie.Need-returns
 returns c =
-    let at-after = c .before .before .before in
-    let cells = at-after .before .before in
-    let s = cells .before .before .before in
-    let a = s .args in
-    makes (a .p .now) (a .r) (a .cells .now) (a .marks .now) (a .buffer .now) (cells .before .cell-count .ensures .0) (cells .stored-cells .ensures)
-    (s .pre .2) (at-after .after .ensures) (c .image-into .ensures)
+    let a = c .before .before .before .before .before .before .before .before .args in
+    makes (a .p .now) (a .r) (a .cells .now) (a .marks .now) (a .buffer .now) (c .before .before .before .before .before .before .cell-count .ensures .0) (c .before .before .before .before .before .stored-cells .ensures)
+    (c .before .before .before .before .before .before .before .before .pre .2) (c .before .before .before .before .before .before .before .before .pre .3) (c .before .before .before .before .before .before .before .before .pre .4) (c .before .before .before .after .ensures) (c .image-into .ensures)
 
 pub make-spec : {M : Type 1} → statement M
 make-spec =

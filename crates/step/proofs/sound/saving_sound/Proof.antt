@@ -1,9 +1,11 @@
 -- `step::sound::saving_sound` meets its contract: each test decides, or leaves it to the next.
 -- Assumes nothing.
+use mathlib.Core.Path.{sym, _∙_}
 use native.Mathlib.Omega.{arith}
 use Rattle.step.specs.State.{machineOf}
-use Rattle.step.proofs.Soundness.{size-most, size-is, saving-none, saving-elsewhere, saving-erasing, saving-over, saving-fits}
+use Rattle.step.proofs.Soundness.{size-most, size-is, saving-none, saving-elsewhere, saving-erasing, saving-over, saving-apart, saving-fits}
 use borrow.Author.Needs.{needs}
+use borrow.Author.Tests.{not-true, not-false}
 use Rattle.step.proofs.sound.saving_sound.Statement.{statement}
 use Rattle.step.proofs.sound.saving_sound.Tie as tie
 
@@ -54,13 +56,20 @@ sub-stored c = search needs
 
 returns-4 : tie.Need-returns-4
 returns-4 c l e =
-    let k3 = c .before .before .before .before .before in
-    let k2 = k3 .before .before in
-    let k1 = k2 .before .before .before in
-    let a = k1 .before .before .before .args in
+    let a = c .before .before .before .before .before .before .before .before .before .before .before .before .before .args in
     let m = machineOf (a .r) (a .cells .now) (a .marks .now) l in
-    saving-over (a .p .now) m (k1 .if1 .left) (k2 .if2 .left) (k3 .if3 .left)
-    (size-is (a .p .now) m (c .before .before .before .stored-cells .ensures) (c .before .before .size .ensures)) (c .if4 .taken)
+    saving-over (a .p .now) m (c .before .before .before .before .before .before .before .before .before .before .if1 .left) (c .before .before .before .before .before .before .before .if2 .left) (c .before .before .before .before .before .if3 .left) (size-is (a .p .now) m (c .before .before .before .stored-cells .ensures) (c .before .before .size .ensures)) (c .if4 .taken)
+
+is-whole-requires : tie.Need-is-whole-requires
+is-whole-requires c κs = search needs
+
+returns-5 : tie.Need-returns-5
+returns-5 c l e =
+    let a = c .before .before .before .before .before .before .before .before .before .before .before .before .before .before .before .args in
+    let m = machineOf (a .r) (a .cells .now) (a .marks .now) l in
+    let w = c .before .is-whole in
+    let size = size-is (a .p .now) m (c .before .before .before .before .before .stored-cells .ensures) (c .before .before .before .before .size .ensures) in
+    saving-apart (a .p .now) m (c .before .before .before .before .before .before .before .before .before .before .before .before .if1 .left) (c .before .before .before .before .before .before .before .before .before .if2 .left) (c .before .before .before .before .before .before .before .if3 .left) size (c .before .before .if4 .left) (sym (w .ensures) ∙ not-true (w .result) (c .if5 .taken))
 
 cast-result : tie.Need-cast-result
 cast-result c = search needs
@@ -69,17 +78,15 @@ sub-result : tie.Need-sub-result
 sub-result c = search needs
 
 add-result : tie.Need-add-result
-add-result c = omega (arith, size-most _ (c .before .before .before .size .ensures))
+add-result c = omega (arith, size-most _ (c .before .before .before .before .before .size .ensures) (c .before .before .before .before .before .before .before .before .before .before .before .before .before .before .before .before .pre .1) (c .before .before .before .before .before .before .before .before .before .before .before .before .before .before .before .before .pre .2))
 
-returns-5 : tie.Need-returns-5
-returns-5 c l e =
-    let k3 = c .before .before .before .before .before .before in
-    let k2 = k3 .before .before in
-    let k1 = k2 .before .before .before in
-    let a = k1 .before .before .before .args in
+returns-6 : tie.Need-returns-6
+returns-6 c l e =
+    let a = c .before .before .before .before .before .before .before .before .before .before .before .before .before .before .before .before .args in
     let m = machineOf (a .r) (a .cells .now) (a .marks .now) l in
-    saving-fits (a .p .now) m (k1 .if1 .left) (k2 .if2 .left) (k3 .if3 .left)
-    (size-is (a .p .now) m (c .before .before .before .before .stored-cells .ensures) (c .before .before .before .size .ensures)) (c .before .if4 .left) e
+    let w = c .before .before .is-whole in
+    let size = size-is (a .p .now) m (c .before .before .before .before .before .before .stored-cells .ensures) (c .before .before .before .before .before .size .ensures) in
+    saving-fits (a .p .now) m (c .before .before .before .before .before .before .before .before .before .before .before .before .before .if1 .left) (c .before .before .before .before .before .before .before .before .before .before .if2 .left) (c .before .before .before .before .before .before .before .before .if3 .left) size (c .before .before .before .if4 .left) (sym (w .ensures) ∙ not-false (w .result) (c .before .if5 .left)) e
 
 pub saving-sound-spec : {M : Type 1} → statement M
 saving-sound-spec =
@@ -98,7 +105,9 @@ saving-sound-spec =
     cast-stored
     sub-stored
     returns-4
+    is-whole-requires
+    returns-5
     cast-result
     sub-result
     add-result
-    returns-5)
+    returns-6)

@@ -1,7 +1,7 @@
 -- `step::sound::sound` meets its contract: each part that fails decides, and the last one where none does.
 -- Assumes nothing.
 use native.Mathlib.Omega.{arith}
-use Rattle.step.proofs.Soundness.{start-inside, sound-stop, sound-marks, sound-places, sound-cells, sound-rest, sound-write, sound-last}
+use Rattle.step.proofs.Soundness.{start-inside, pages-some, sound-stop, sound-marks, sound-places, sound-cells, sound-rest, sound-write, sound-pages, sound-last}
 use borrow.Author.Needs.{needs}
 use Rattle.step.proofs.sound.sound.Statement.{statement}
 use Rattle.step.proofs.sound.sound.Tie as tie
@@ -54,24 +54,22 @@ add-if6 c = search needs
 returns-6 : tie.Need-returns-6
 returns-6 c l e = sound-write _ _ e (c .if6 .taken)
 
-saving-sound-requires : tie.Need-saving-sound-requires
-saving-sound-requires c κs =
-    let k3 = c .before .before .before .before .before .before .before .before in
-    let start = k3 .before .before .before .before .before .before .before in
-    start-inside _ _ (start .args .r .exclude) (k3 .before .places-sound .ensures _ (start .pre .0)) (k3 .if3 .left)
+pages-sound-requires : tie.Need-pages-sound-requires
+pages-sound-requires c κs = search needs
 
 returns-7 : tie.Need-returns-7
-returns-7 c l e =
-    let k5 = c .before .before .before .before in
-    let k4 = k5 .before .before in
-    let k3 = k4 .before .before .before in
-    let k2 = k3 .before .before in
-    let k1 = k2 .before .before in
-    sound-last _ _ (k1 .if1 .left) (k2 .before .are-marks .ensures) (k2 .if2 .left)
-    (k3 .before .places-sound .ensures _ (k1 .before .before .before .pre .0)) (k3 .if3 .left)
-    (k4 .before .cells-clear .ensures) (k4 .if4 .left)
-    (k5 .before .marks-clear .ensures) (k5 .if5 .left)
-    e (c .before .if6 .left) (c .saving-sound .ensures l e)
+returns-7 c l e = sound-pages _ _ (c .before .pages-sound .ensures) (c .if7 .taken)
+
+saving-sound-requires : tie.Need-saving-sound-requires
+saving-sound-requires c κs =
+    let pages = pages-some (c .before .before .before .before .before .before .before .before .before .before .before .before .before .before .before .before .before .args .r) (c .before .pages-sound .ensures) (c .if7 .left) in
+    (start-inside _ _ (c .before .before .before .before .before .before .before .before .before .before .before .before .before .before .before .before .before .args .r .exclude) (c .before .before .before .before .before .before .before .before .before .before .before .places-sound .ensures _ (c .before .before .before .before .before .before .before .before .before .before .before .before .before .before .before .before .before .pre .0)) (c .before .before .before .before .before .before .before .before .before .before .if3 .left), pages .0, pages .1)
+
+returns-8 : tie.Need-returns-8
+returns-8 c l e =
+    sound-last _ _ (c .before .before .before .before .before .before .before .before .before .before .before .before .before .before .before .if1 .left) (c .before .before .before .before .before .before .before .before .before .before .before .before .before .before .are-marks .ensures) (c .before .before .before .before .before .before .before .before .before .before .before .before .before .if2 .left) (c .before .before .before .before .before .before .before .before .before .before .before .before .places-sound .ensures _ (c .before .before .before .before .before .before .before .before .before .before .before .before .before .before .before .before .before .before .pre .0)) (c .before .before .before .before .before .before .before .before .before .before .before .if3 .left)
+    (c .before .before .before .before .before .before .before .before .before .cells-clear .ensures) (c .before .before .before .before .before .before .before .before .if4 .left) (c .before .before .before .before .before .before .before .marks-clear .ensures) (c .before .before .before .before .before .before .if5 .left) e (c .before .before .before .if6 .left) (c .before .before .pages-sound .ensures) (c .before .if7 .left)
+    (c .saving-sound .ensures l e)
 
 pub sound-spec : {M : Type 1} → statement M
 sound-spec =
@@ -93,5 +91,7 @@ sound-spec =
     cast-if6-2
     add-if6
     returns-6
+    pages-sound-requires
+    returns-7
     saving-sound-requires
-    returns-7)
+    returns-8)

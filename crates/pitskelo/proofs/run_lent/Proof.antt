@@ -1,4 +1,4 @@
--- `pitskelo_run` meets its contract: a state of another length is refused at its place in the order, and a plan by its check; else what the run of what the
+-- `run_lent` meets its contract: a state of another length is refused at its place in the order, and a plan by its check; else what the run of what the
 -- bytes hold leaves is stored.
 -- Assumes nothing.
 use mathlib.Core.Path.{sym}
@@ -6,8 +6,8 @@ use native.Mathlib.Omega.{arith}
 use Rattle.stretches.proofs.Running.{cut}
 use Rattle.pitskelo.proofs.RunCalls.{odd-run, plan-run, refused-run, accepted-run}
 use borrow.Author.Needs.{needs}
-use Rattle.pitskelo.proofs.pitskelo_run.Statement.{statement}
-use Rattle.pitskelo.proofs.pitskelo_run.Tie as tie
+use Rattle.pitskelo.proofs.run_lent.Statement.{statement}
+use Rattle.pitskelo.proofs.run_lent.Tie as tie
 
 odd-state-requires : tie.Need-odd-state-requires
 odd-state-requires c κs = search needs
@@ -98,8 +98,8 @@ returns-4 c =
     (r .before .before .before .before .before .before .before .load-regs .ensures, r .before .before .before .before .before .before .before .before .before .before .before .load-cells .ensures, r .before .before .before .before .before .before .before .before .before .load-marks .ensures) (r .run-all .ensures .0) (c .before .before .before .before .before .before .before .before .before .refusal .ensures)
     (c .before .before .before .before .before .before .before .before .if3 .left) (c .before .before .before .store-parts .ensures) (c .kind .ensures)
 
-pub pitskelo-run-spec : {M : Type 1} → statement M
-pitskelo-run-spec =
+pub run-lent-spec : {M : Type 1} → statement M
+run-lent-spec =
     tie.close
     (tie.spec
     odd-state-requires

@@ -1,17 +1,17 @@
--- `pitskelo_recover` meets its contract: a state of another length is refused at its place in the order; else recovery of what the bytes hold is stored.
+-- `recover_lent` meets its contract: a state of another length is refused at its place in the order; else recovery of what the bytes hold is stored.
 -- Assumes nothing.
 use native.Mathlib.Omega.{arith}
 use Rattle.stretches.proofs.Running.{cut}
 use Rattle.pitskelo.proofs.Recovering.{odd-recovery, refused-recovery, done-recovery}
 use borrow.Author.Needs.{needs}
-use Rattle.pitskelo.proofs.pitskelo_recover.Statement.{statement}
-use Rattle.pitskelo.proofs.pitskelo_recover.Tie as tie
+use Rattle.pitskelo.proofs.recover_lent.Statement.{statement}
+use Rattle.pitskelo.proofs.recover_lent.Tie as tie
 
 odd-state-requires : tie.Need-odd-state-requires
 odd-state-requires c κs = search needs
 
 returns : tie.Need-returns
-returns c = odd-recovery _ _ _ _ (c .before .if1 .taken) (c .odd-state .ensures)
+returns c = odd-recovery _ _ _ _ _ (c .before .if1 .taken) (c .odd-state .ensures)
 
 word-count-requires : tie.Need-word-count-requires
 word-count-requires c κs = search needs
@@ -40,7 +40,7 @@ same-length c = search needs
 returns-2 : tie.Need-returns-2
 returns-2 c =
     let r = c .before .before in
-    refused-recovery _ _ _ _ _ (r .before .before .before .before .before .before .if1 .left) (r .before .before .before .before .before .word-count .ensures) (r .before .before .before .before .load-words .ensures .1) (r .before .before .load-state .ensures)
+    refused-recovery _ _ _ _ _ _ (r .before .before .before .before .before .before .if1 .left) (r .before .before .before .before .before .word-count .ensures) (r .before .before .before .before .load-words .ensures .1) (r .before .before .load-state .ensures)
     (r .recover-value .ensures .recovers) (c .before .restored .ensures) (c .if2 .taken)
 
 store-state-requires : tie.Need-store-state-requires
@@ -52,11 +52,11 @@ same-length-2 c = search needs
 returns-3 : tie.Need-returns-3
 returns-3 c =
     let r = c .before .before .before .before .before .before .before in
-    done-recovery _ _ _ _ _ (r .before .before .before .before .before .before .if1 .left) (r .before .before .before .before .before .word-count .ensures) (r .before .before .before .before .load-words .ensures .1) (r .before .before .load-state .ensures)
+    done-recovery _ _ _ _ _ _ (r .before .before .before .before .before .before .if1 .left) (r .before .before .before .before .before .word-count .ensures) (r .before .before .before .before .load-words .ensures .1) (r .before .before .load-state .ensures)
     (r .recover-value .ensures .recovers) (c .before .before .before .before .before .before .restored .ensures) (c .before .before .before .before .before .if2 .left) (c .before .before .store-state .ensures)
 
-pub pitskelo-recover-spec : {M : Type 1} → statement M
-pitskelo-recover-spec =
+pub recover-lent-spec : {M : Type 1} → statement M
+recover-lent-spec =
     tie.close
     (tie.spec
     odd-state-requires
