@@ -2,13 +2,14 @@
  * A host of the plan engine. It runs a plan on a chip that is kept in a file, may be killed at any
  * moment, and goes on from the last whole save when it is started again.
  *
- *   host PLAN CHIP READINGS [PAUSE]
+ *   host [-p] PLAN CHIP READINGS [PAUSE]
  *
+ * -p        the chip is a page chip, which stores 16 bytes as a unit; else it is a byte chip
  * PLAN      the plan's bytes
  * CHIP      the chip: a file as long as the chip, all FF before the plan's first start
  * READINGS  signed 32-bit numbers, little-endian: reading n stands at byte 4 n. Readings may be
  *           appended, and none altered: after a restart those since the last save are taken again
- * PAUSE     microseconds that the chip takes for a byte, 0 if it is missing
+ * PAUSE     microseconds that the chip takes for a byte, or a page, 0 if it is missing
  *
  * Standard output gets a line for each output, its number and its value. After a restart the
  * outputs since the last save come again, with the same numbers and values: a reader drops the
@@ -17,7 +18,8 @@
  *
  * Nothing is lost in a cut since the engine works on a copy of the chip, and after each call
  * - the outputs are handed on before a byte is written to the chip,
- * - the bytes are written in the order of the steps that changed them.
+ * - the bytes, or pages, are written in the order of the steps that changed them. A page is one
+ *   write: a kill leaves it done, or not begun.
  *
  * A kill leaves to the system what was written to it, so a plain write is enough here. Against a
  * cut of this machine's own power each write would have to reach the disk (fsync) before the next.
@@ -46,13 +48,33 @@
 #endif
 
 #define NUMBER_SIZE 4
-#define ERASED 0xFF
+
+/* A kind of chip: the bytes that it stores or erases as a unit, and its calls. */
+struct kind {
+    uint32_t unit;
+    uint32_t (*recover)(const uint8_t *plan, size_t plan_len, const uint8_t *sets, size_t sets_len,
+                        const uint8_t *chip, size_t chip_len, uint8_t *state, size_t state_len);
+    uint32_t (*run)(const uint8_t *plan, size_t plan_len, const uint8_t *sets, size_t sets_len,
+                    uint8_t *chip, size_t chip_len, uint8_t *state, size_t state_len,
+                    const uint8_t *readings, size_t readings_len,
+                    uint8_t *outputs, size_t outputs_len, uint64_t budget,
+                    uint32_t *ended, uint64_t *steps, uint64_t *taken, uint64_t *given);
+};
+
+static const struct kind byte_chip = {1, pitskelo_recover, pitskelo_run};
+static const struct kind page_chip = {PITSKELO_PAGE_SIZE, pitskelo_page_recover, pitskelo_page_run};
+
+/* An erased page; the first byte of it is an erased byte. */
+static const uint8_t erased[PITSKELO_PAGE_SIZE] = {
+    0xFF, 0xFF, 0xFF, 0xFF, 0xFF, 0xFF, 0xFF, 0xFF, 0xFF, 0xFF, 0xFF, 0xFF, 0xFF, 0xFF, 0xFF, 0xFF,
+};
 
 /*
  * What the host lends to the engine, and its files. A file longer than a plan or a chip may be is
  * read one byte too far, so that the engine sees it and refuses it.
  */
 struct host {
+    const struct kind *kind;
     uint8_t plan[PITSKELO_PLAN_MAX + 1];
     size_t plan_len;
     uint8_t sets[PITSKELO_SETS_SIZE];
@@ -134,7 +156,7 @@ static void load(struct host *host, char **paths)
 static void analyse(struct host *host)
 {
     static uint8_t dead[PITSKELO_DEAD_SIZE];
-    must_accept("pitskelo_analyse",
+    must_accept("analyse",
                 pitskelo_analyse(host->plan, host->plan_len, dead, sizeof dead,
                                  host->sets, sizeof host->sets));
 }
@@ -142,9 +164,9 @@ static void analyse(struct host *host)
 /* Sets the state by the whole saves on the chip, whatever a cut has left behind them. */
 static void recover(struct host *host)
 {
-    must_accept("pitskelo_recover",
-                pitskelo_recover(host->plan, host->plan_len, host->sets, sizeof host->sets,
-                                 host->chip, host->chip_len, host->state, sizeof host->state));
+    must_accept("recover",
+                host->kind->recover(host->plan, host->plan_len, host->sets, sizeof host->sets,
+                                    host->chip, host->chip_len, host->state, sizeof host->state));
 }
 
 /*
@@ -164,13 +186,15 @@ static void hand_on(uint32_t number, int64_t value)
         fail("standard output");
 }
 
-static void write_chip(const struct host *host, uint32_t address, uint8_t byte)
+/* Writes one unit, by one write: a page is stored whole or not at all. */
+static void write_chip(const struct host *host, uint32_t address, const uint8_t *bytes)
 {
+    uint32_t unit = host->kind->unit;
     struct timespec pause = {
         .tv_sec = host->pause / 1000000,
         .tv_nsec = host->pause % 1000000 * 1000,
     };
-    if (pwrite(host->chip_file, &byte, 1, (off_t)address) != 1)
+    if (pwrite(host->chip_file, bytes, unit, (off_t)address) != (ssize_t)unit)
         fail("the chip");
     if (host->pause > 0)
         nanosleep(&pause, NULL);
@@ -179,18 +203,20 @@ static void write_chip(const struct host *host, uint32_t address, uint8_t byte)
 /*
  * Writes to the chip what a call changed on the copy. write and erase are what the state had before
  * the call: the write position, and the number of torn bytes from there on. The engine erases these
- * from the highest address down, and then stores saves upward.
+ * from the highest address down, and then stores saves upward. On a page chip the state's addresses
+ * and numbers of bytes are whole pages.
  */
 static void update_chip(const struct host *host, uint32_t write, uint32_t erase)
 {
     uint32_t end = in_state(host, PITSKELO_STATE_WRITE);
     uint32_t left = in_state(host, PITSKELO_STATE_ERASE);
+    uint32_t unit = host->kind->unit;
     uint32_t at;
 
-    for (at = write + erase; at > write + left; at--)
-        write_chip(host, at - 1, ERASED);
-    for (at = write; at < end; at++)
-        write_chip(host, at, host->chip[at]);
+    for (at = write + erase; at > write + left; at -= unit)
+        write_chip(host, at - unit, erased);
+    for (at = write; at < end; at += unit)
+        write_chip(host, at, host->chip + at);
 }
 
 /* Runs the plan on for one call, and gives how the call ended. */
@@ -204,11 +230,11 @@ static uint32_t run_on(struct host *host)
     uint32_t ended;
     uint64_t steps, taken, given, k;
 
-    must_accept("pitskelo_run",
-                pitskelo_run(host->plan, host->plan_len, host->sets, sizeof host->sets,
-                             host->chip, host->chip_len, host->state, sizeof host->state,
-                             readings, readings_len, outputs, sizeof outputs, BUDGET,
-                             &ended, &steps, &taken, &given));
+    must_accept("run",
+                host->kind->run(host->plan, host->plan_len, host->sets, sizeof host->sets,
+                                host->chip, host->chip_len, host->state, sizeof host->state,
+                                readings, readings_len, outputs, sizeof outputs, BUDGET,
+                                &ended, &steps, &taken, &given));
     for (k = 0; k < given; k++)
         hand_on(number + (uint32_t)k, signed_at(outputs + k * NUMBER_SIZE));
     update_chip(host, write, erase);
@@ -237,8 +263,14 @@ int main(int argc, char **argv)
     static struct host host;
     uint32_t ended;
 
+    host.kind = &byte_chip;
+    if (argc > 1 && strcmp(argv[1], "-p") == 0) {
+        host.kind = &page_chip;
+        argc--;
+        argv++;
+    }
     if (argc != 4 && argc != 5) {
-        fprintf(stderr, "use: host PLAN CHIP READINGS [PAUSE]\n");
+        fprintf(stderr, "use: host [-p] PLAN CHIP READINGS [PAUSE]\n");
         return EXIT_FAILURE;
     }
     host.pause = argc == 5 ? atol(argv[4]) : 0;

@@ -20,9 +20,12 @@
  *   7  no command, or the last is neither END nor JUMP
  *   8  a jump's target isn't a command's offset
  *   9  a buffer of words is too short
- *   10 the state has another length than PITSKELO_STATE_SIZE, or, for a run, is not sound
- *   11 the chip is over 65,536 bytes
- *   12 the chip is damaged: what follows its whole saves is neither erased nor begins a save
+ *   10 the state has another length than PITSKELO_STATE_SIZE, or, for a run, is not sound; for one
+ *      on a page chip also where its write position, its count of bytes to erase or its count of
+ *      bytes stored of a save is not divisible by 16
+ *   11 the chip is over 65,536 bytes; for a page chip also where its length is not divisible by 16
+ *   12 the chip is damaged: what follows its whole saves is neither erased nor begins a save; for a
+ *      page chip also where a page of a whole save is filled with other bytes than FF
  *
  * Several may hold at once. 1 is tried first, then 2 to 5 command by command, then 6 to 12 in this
  * order.
@@ -45,6 +48,7 @@ extern "C" {
 #define PITSKELO_SETS_SIZE 4096  /* sets has at least so many */
 #define PITSKELO_STATE_SIZE 1312 /* the state has just so many */
 #define PITSKELO_CHIP_MAX 65536  /* a chip has 0 to so many */
+#define PITSKELO_PAGE_SIZE 16    /* a page chip stores so many as a unit */
 
 /*
  * Where the state has the numbers that a host may want to know: little-endian, unsigned, 32 bits.
@@ -127,6 +131,29 @@ uint32_t pitskelo_run(const uint8_t *plan, size_t plan_len,
                       uint8_t *outputs, size_t outputs_len,
                       uint64_t budget,
                       uint32_t *ended, uint64_t *steps, uint64_t *taken, uint64_t *given);
+
+/*
+ * The same on a page chip, which stores PITSKELO_PAGE_SIZE bytes as a unit: a step erases one page
+ * of a torn save, or stores one page of a save, or executes one command. A save starts at an
+ * address divisible by 16, and behind it its last page is filled with FF; it fits the chip where
+ * its filled pages do. A page with any torn byte counts whole among the bytes to erase.
+ *
+ * The state does not say for which kind of chip it is: a host keeps to one kind, by the chip that
+ * it has.
+ */
+uint32_t pitskelo_page_recover(const uint8_t *plan, size_t plan_len,
+                               const uint8_t *sets, size_t sets_len,
+                               const uint8_t *chip, size_t chip_len,
+                               uint8_t *state, size_t state_len);
+
+uint32_t pitskelo_page_run(const uint8_t *plan, size_t plan_len,
+                           const uint8_t *sets, size_t sets_len,
+                           uint8_t *chip, size_t chip_len,
+                           uint8_t *state, size_t state_len,
+                           const uint8_t *readings, size_t readings_len,
+                           uint8_t *outputs, size_t outputs_len,
+                           uint64_t budget,
+                           uint32_t *ended, uint64_t *steps, uint64_t *taken, uint64_t *given);
 
 #ifdef __cplusplus
 }

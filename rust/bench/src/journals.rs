@@ -1,7 +1,9 @@
 //! Reading a chip in plain Rust, as one would write it who wants it fast but simple, and the chips
-//! that are timed.
+//! that are timed. The page length is a constant, so that a byte chip's code has no trace of pages.
 
-use reference::journal::{Mark, Save, ERASED, MARK, MARK_END, MAX_CHIP, RECORD};
+use reference::journal::{
+    Mark, Save, BYTE_CHIP, ERASED, MARK, MARK_END, MAX_CHIP, PAGE_CHIP, RECORD,
+};
 use reference::program::{CHECKPOINT, EXCLUDE, FIRST_INSTRUCTION, LENGTHS, MAX_BYTES};
 use reference::refusal::{CHIP_DAMAGED, CHIP_LENGTH};
 
@@ -11,8 +13,8 @@ const MARK_LEN: usize = 14;
 const AFTER_CHECKPOINT: u8 = 1;
 const AT_EXCLUDE: u8 = 2;
 
-/// What an accepted chip holds: where its whole saves end, how many torn bytes follow, the last
-/// mark, and the value of each cell.
+/// What an accepted chip holds: where the pages of its whole saves end, how many bytes the torn
+/// pages behind them have, the last mark, and the value of each cell.
 #[derive(Clone, Debug, PartialEq, Eq)]
 pub struct Held {
     pub end: usize,
@@ -22,8 +24,8 @@ pub struct Held {
 }
 
 /// Reads a chip for an accepted plan of so many cells, or gives the refusal.
-pub fn read(plan: &[u8], cells: usize, chip: &[u8]) -> Result<Held, u32> {
-    if chip.len() > MAX_CHIP {
+pub fn read<const PAGE: usize>(plan: &[u8], cells: usize, chip: &[u8]) -> Result<Held, u32> {
+    if chip.len() > MAX_CHIP || !chip.len().is_multiple_of(PAGE) {
         return Err(CHIP_LENGTH);
     }
     let places = places(plan);
@@ -47,16 +49,23 @@ pub fn read(plan: &[u8], cells: usize, chip: &[u8]) -> Result<Held, u32> {
             if !begins(&chip[records_end..], cells, &seen, &places, held.last) {
                 return Err(CHIP_DAMAGED);
             }
-            held.torn = chip.len() - held.end;
+            held.torn = (chip.len() - held.end).next_multiple_of(PAGE);
             return Ok(held);
         };
         for record in chip[held.end..records_end].chunks_exact(RECORD_LEN) {
             held.values[usize::from(record[1])] = word(&record[2..]);
         }
         held.last = mark;
-        held.end = records_end + MARK_LEN;
+        held.end = pages_end::<PAGE>(chip, records_end + MARK_LEN).ok_or(CHIP_DAMAGED)?;
     }
     Ok(held)
+}
+
+/// Where the pages of a save end whose mark ends there, if FF fills the last.
+fn pages_end<const PAGE: usize>(chip: &[u8], mark_end: usize) -> Option<usize> {
+    let end = mark_end.next_multiple_of(PAGE);
+    let filling = &chip[mark_end..end.min(chip.len())];
+    filling.iter().all(|&byte| byte == ERASED).then_some(end)
 }
 
 /// Of each offset whether it stands behind a CHECKPOINT and whether an EXCLUDE stands there; as the
@@ -160,9 +169,9 @@ fn begins(
 /// A plan of 256 cells with an EXCLUDE at offset 1 and a CHECKPOINT before offset 3.
 pub const PLAN: &[u8] = &[0xFF, EXCLUDE, CHECKPOINT, 0x01];
 
-/// Chips with their names: as many whole saves of so many cells as they hold, and FF. The shorter ones show how the
+/// Byte chips with their names: as many whole saves of so many cells as they hold, and FF. The shorter ones show how the
 /// time grows with the length.
-pub fn chips() -> Vec<(&'static str, Vec<u8>)> {
+pub fn byte_chips() -> Vec<(&'static str, Vec<u8>)> {
     let named = [
         ("256 cells", 256, MAX_CHIP),
         ("16 cells", 16, MAX_CHIP),
@@ -172,11 +181,18 @@ pub fn chips() -> Vec<(&'static str, Vec<u8>)> {
         ("no cell", 0, MAX_CHIP),
     ];
     named
-        .map(|(name, cells, length)| (name, full(cells, length)))
+        .map(|(name, cells, length)| (name, full(cells, length, BYTE_CHIP)))
         .into()
 }
 
-fn full(cells: usize, length: usize) -> Vec<u8> {
+/// Page chips, as full.
+pub fn page_chips() -> Vec<(&'static str, Vec<u8>)> {
+    [("page chip, 16 cells", 16), ("page chip, no cell", 0)]
+        .map(|(name, cells)| (name, full(cells, MAX_CHIP, PAGE_CHIP)))
+        .into()
+}
+
+fn full(cells: usize, length: usize, page: usize) -> Vec<u8> {
     let mut chip = Vec::new();
     loop {
         let taken = chip.len() as u32;
@@ -196,11 +212,11 @@ fn full(cells: usize, length: usize) -> Vec<u8> {
                 outputs: taken / 2,
             },
         };
-        let bytes = save.bytes();
-        if chip.len() + bytes.len() > length {
+        let pages = save.pages(page);
+        if chip.len() + pages.len() > length {
             chip.resize(length, ERASED);
             return chip;
         }
-        chip.extend(bytes);
+        chip.extend(pages);
     }
 }

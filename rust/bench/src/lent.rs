@@ -2,7 +2,7 @@
 //! encoded again.
 
 use differential::call::{put_words, set_lower, words, Call, Callee, Entry, Ran};
-use reference::journal::MAX_CHIP;
+use reference::journal::{BYTE_CHIP, MAX_CHIP, PAGE_CHIP};
 use reference::layout::STATE_BYTES;
 use reference::program::{CHECKPOINT, EXCLUDE};
 use reference::refusal::{BUFFER_TOO_SHORT, CHIP_LENGTH, STATE_NOT_SOUND};
@@ -16,7 +16,12 @@ const MARKS_AT: usize = 1_024;
 const NUMBERS_AT: usize = 1_280;
 
 /// Restores the state that the chip holds, or gives the refusal.
-pub fn recover(plan: &[u8], sets: &[[u8; 8]], chip: &[u8], state: &mut [u8]) -> Result<(), u32> {
+pub fn recover<const PAGE: usize>(
+    plan: &[u8],
+    sets: &[[u8; 8]],
+    chip: &[u8],
+    state: &mut [u8],
+) -> Result<(), u32> {
     let cell_count = check(plan)?.cells as usize;
     if sets.len() < SET_WORDS {
         return Err(BUFFER_TOO_SHORT);
@@ -24,8 +29,8 @@ pub fn recover(plan: &[u8], sets: &[[u8; 8]], chip: &[u8], state: &mut [u8]) -> 
     if state.len() != STATE_BYTES {
         return Err(STATE_NOT_SOUND);
     }
-    let held = read(plan, cell_count, chip)?;
-    let mut machine = Machine::first(plan, cell_count);
+    let held = read::<PAGE>(plan, cell_count, chip)?;
+    let mut machine = Machine::<PAGE>::first(plan, cell_count);
     machine.cells = held.values.map(|value| value as i32);
     machine.place = held.last.place.into();
     machine.exclude = held.last.exclude.into();
@@ -41,14 +46,14 @@ pub fn recover(plan: &[u8], sets: &[[u8; 8]], chip: &[u8], state: &mut [u8]) -> 
 }
 
 /// Runs the plan from the state, or gives the refusal.
-pub fn run(plan: &[u8], state: &mut [u8], lent: &mut Lent) -> Result<Ran, u32> {
+pub fn run<const PAGE: usize>(plan: &[u8], state: &mut [u8], lent: &mut Lent) -> Result<Ran, u32> {
     let cell_count = check(plan)?.cells as usize;
     if lent.sets.len() < SET_WORDS {
         return Err(BUFFER_TOO_SHORT);
     }
-    let decoded = Machine::decode(plan, cell_count, state, lent.chip.len());
+    let decoded = Machine::<PAGE>::decode(plan, cell_count, state, lent.chip.len());
     let mut machine = decoded.ok_or(STATE_NOT_SOUND)?;
-    if lent.chip.len() > MAX_CHIP {
+    if lent.chip.len() > MAX_CHIP || !lent.chip.len().is_multiple_of(PAGE) {
         return Err(CHIP_LENGTH);
     }
     let ran = machine.run(lent);
@@ -56,9 +61,9 @@ pub fn run(plan: &[u8], state: &mut [u8], lent: &mut Lent) -> Result<Ran, u32> {
     Ok(ran)
 }
 
-impl<'a> Machine<'a> {
+impl<'a, const PAGE: usize> Machine<'a, PAGE> {
     /// The machine that stands in the bytes, if they are a sound state.
-    fn decode(plan: &'a [u8], cell_count: usize, bytes: &[u8], chip: usize) -> Option<Machine<'a>> {
+    fn decode(plan: &'a [u8], cell_count: usize, bytes: &[u8], chip: usize) -> Option<Self> {
         if bytes.len() != STATE_BYTES {
             return None;
         }
@@ -93,6 +98,8 @@ impl<'a> Machine<'a> {
                 .iter()
                 .all(|mark| *mark == INCLUDE)
             && self.write + self.erase <= chip
+            && self.write.is_multiple_of(PAGE)
+            && self.erase.is_multiple_of(PAGE)
     }
 
     /// Takes up the save at work, if there is one, and gives whether that is sound.
@@ -104,6 +111,7 @@ impl<'a> Machine<'a> {
         let is_sound = self.map.opcodes[self.place] == CHECKPOINT
             && self.erase == 0
             && stored < size
+            && stored.is_multiple_of(PAGE)
             && self.write + size - stored <= chip;
         (self.saving, self.stored) = (true, stored);
         is_sound
@@ -157,11 +165,10 @@ impl Callee for Plain {
         let answer = match call.entry {
             Entry::Check => answer_check(call),
             Entry::Analyse => answer_analyse(call),
-            Entry::Recover => {
-                let (sets, _) = call.sets.lent().as_chunks();
-                recover(call.plan.lent(), sets, call.chip.lent(), call.state.lend())
-            }
-            Entry::Run => answer_run(call),
+            Entry::Recover => answer_recover::<BYTE_CHIP>(call),
+            Entry::Run => answer_run::<BYTE_CHIP>(call),
+            Entry::PageRecover => answer_recover::<PAGE_CHIP>(call),
+            Entry::PageRun => answer_run::<PAGE_CHIP>(call),
         };
         answer.err().unwrap_or(0)
     }
@@ -184,7 +191,12 @@ fn answer_analyse(call: &mut Call) -> Result<(), u32> {
     Ok(())
 }
 
-fn answer_run(call: &mut Call) -> Result<(), u32> {
+fn answer_recover<const PAGE: usize>(call: &mut Call) -> Result<(), u32> {
+    let (sets, _) = call.sets.lent().as_chunks();
+    recover::<PAGE>(call.plan.lent(), sets, call.chip.lent(), call.state.lend())
+}
+
+fn answer_run<const PAGE: usize>(call: &mut Call) -> Result<(), u32> {
     let mut lent = Lent {
         sets: call.sets.lent().as_chunks().0,
         chip: call.chip.lend(),
@@ -192,7 +204,7 @@ fn answer_run(call: &mut Call) -> Result<(), u32> {
         outputs: call.outputs.lend().as_chunks_mut().0,
         budget: call.budget,
     };
-    let ran = run(call.plan.lent(), call.state.lend(), &mut lent)?;
+    let ran = run::<PAGE>(call.plan.lent(), call.state.lend(), &mut lent)?;
     let [ended, steps, taken, given] = &mut call.numbers;
     set_lower(ended, ran.ended);
     (*steps, *taken, *given) = (ran.steps, ran.taken, ran.given);

@@ -1,11 +1,11 @@
 //! A run in plain Rust, as one would write it who wants it fast but simple, in place: the bytes of the plan are
 //! executed as they stand, words, readings and outputs are bytes too, and a save's bytes are made, stored and erased in one
-//! go as far as the budget allows.
+//! go as far as the budget allows. The page length is a constant, so that a byte chip's code has no trace of pages.
 
 use std::array::from_fn;
 
 use differential::call::Ran;
-use reference::journal::{ERASED, MARK, MARK_END, RECORD};
+use reference::journal::{ERASED, MARK, MARK_END, PAGE_CHIP, RECORD};
 use reference::program::{
     ADD, CHECKPOINT, COPY, DIV, EMIT, END, EXCLUDE, FIRST_INSTRUCTION, GET, JUMP, LENGTHS, LESS,
     MAX_BYTES, PUT, READ, SET, SUB,
@@ -43,11 +43,12 @@ impl Map {
     }
 }
 
-/// The most bytes that a save has.
-const MAX_SAVE: usize = 6 * 256 + 14;
+/// The most bytes that a save has, its last page filled.
+const MAX_SAVE: usize = (6 * 256 + 14_usize).next_multiple_of(PAGE_CHIP);
 
-/// The state. While it saves, `stored` says how many bytes of the save stand on the chip.
-pub(crate) struct Machine<'a> {
+/// The state, for a chip of pages of so many bytes. While it saves, `stored` says how many bytes of the save stand on the
+/// chip.
+pub(crate) struct Machine<'a, const PAGE: usize> {
     pub(crate) plan: &'a [u8],
     pub(crate) map: Map,
     pub(crate) cell_count: usize,
@@ -73,8 +74,8 @@ pub struct Lent<'a> {
     pub budget: u64,
 }
 
-impl<'a> Machine<'a> {
-    pub(crate) fn first(plan: &'a [u8], cell_count: usize) -> Machine<'a> {
+impl<'a, const PAGE: usize> Machine<'a, PAGE> {
+    pub(crate) fn first(plan: &'a [u8], cell_count: usize) -> Self {
         Machine {
             plan,
             map: Map::of(plan),
@@ -111,9 +112,9 @@ impl<'a> Machine<'a> {
             }
             let left = lent.budget - ran.steps;
             if self.erase > 0 {
-                ran.steps += self.erase_bytes(left, lent.chip);
+                ran.steps += self.erase_pages(left, lent.chip);
             } else if self.saving {
-                ran.steps += self.store_bytes(left, lent.chip);
+                ran.steps += self.store_pages(left, lent.chip);
             } else {
                 let opcode = self.plan[self.place];
                 if opcode == READ && ran.taken == lent.readings.len() as u64 {
@@ -131,7 +132,7 @@ impl<'a> Machine<'a> {
     }
 }
 
-impl Machine<'_> {
+impl<const PAGE: usize> Machine<'_, PAGE> {
     fn operand(&self, k: usize) -> usize {
         usize::from(self.plan[self.place + k])
     }
@@ -224,10 +225,11 @@ impl Machine<'_> {
         self.place += 1;
     }
 
-    /// The length of the save that would begin now.
+    /// The length of the save that would begin now, its last page filled.
     pub(crate) fn save_len(&self) -> usize {
         let stored = |mark: &&u8| **mark <= PENDING;
-        6 * self.marks[..self.cell_count].iter().filter(stored).count() + 14
+        let records = self.marks[..self.cell_count].iter().filter(stored).count();
+        (6 * records + 14).next_multiple_of(PAGE)
     }
 
     fn checkpoint(&mut self, chip: usize) {
@@ -237,7 +239,7 @@ impl Machine<'_> {
         }
     }
 
-    /// Makes the bytes of the save, and gives their number.
+    /// Makes the bytes of the save at the front of erased ones, and gives their number, its last page filled.
     fn make_save(&self, save: &mut [u8; MAX_SAVE]) -> usize {
         let mut at = 0;
         let mut put = |bytes: &[u8]| {
@@ -254,24 +256,25 @@ impl Machine<'_> {
         put(&self.readings.to_le_bytes());
         put(&self.outputs.to_le_bytes());
         put(&[MARK_END]);
-        at
+        at.next_multiple_of(PAGE)
     }
 
-    /// Erases as many of the torn bytes as the budget allows, and gives their number.
-    fn erase_bytes(&mut self, left: u64, chip: &mut [u8]) -> u64 {
-        let bytes = left.min(self.erase as u64);
+    /// Erases as many of the torn pages as the budget allows, and gives their number.
+    fn erase_pages(&mut self, left: u64, chip: &mut [u8]) -> u64 {
+        let pages = left.min((self.erase / PAGE) as u64);
+        let bytes = pages as usize * PAGE;
         let end = self.write + self.erase;
-        chip[end - bytes as usize..end].fill(ERASED);
-        self.erase -= bytes as usize;
-        bytes
+        chip[end - bytes..end].fill(ERASED);
+        self.erase -= bytes;
+        pages
     }
 
-    /// Stores as many bytes of the save as the budget allows, and gives their number.
-    fn store_bytes(&mut self, left: u64, chip: &mut [u8]) -> u64 {
-        let mut save = [0; MAX_SAVE];
+    /// Stores as many pages of the save as the budget allows, and gives their number.
+    fn store_pages(&mut self, left: u64, chip: &mut [u8]) -> u64 {
+        let mut save = [ERASED; MAX_SAVE];
         let size = self.make_save(&mut save);
-        let bytes = left.min((size - self.stored) as u64);
-        let next = &save[self.stored..self.stored + bytes as usize];
+        let pages = left.min(((size - self.stored) / PAGE) as u64);
+        let next = &save[self.stored..self.stored + pages as usize * PAGE];
         chip[self.write..self.write + next.len()].copy_from_slice(next);
         self.write += next.len();
         self.stored += next.len();
@@ -282,6 +285,6 @@ impl Machine<'_> {
             self.saving = false;
             self.place += 1;
         }
-        bytes
+        pages
     }
 }

@@ -21,7 +21,7 @@ fn main() -> ExitCode {
         eprintln!("usage: bench [--bar X], X above 0");
         return ExitCode::from(2);
     };
-    println!("{:30}   library  baseline   ratio", "microseconds");
+    println!("{:38}   library  baseline   ratio", "microseconds");
     let passes = [time_analysis(bar), time_calls(bar)];
     println!();
     for sizes in sizes().chunks(3) {
@@ -149,7 +149,7 @@ fn report(job: &str, name: &str, [library, baseline]: [f64; 2], bar: f64) -> boo
     let ratio = library / baseline;
     let passes = ratio <= bar;
     let mark = if passes { "" } else { "  above the bar" };
-    println!("{job:12}{name:18}{library:10.2}{baseline:10.2}{ratio:8.2}{mark}");
+    println!("{job:12}{name:26}{library:10.2}{baseline:10.2}{ratio:8.2}{mark}");
     passes
 }
 
@@ -157,7 +157,7 @@ fn report(job: &str, name: &str, [library, baseline]: [f64; 2], bar: f64) -> boo
 fn report_rates(what: &str, micros: [f64; 2], work: f64) {
     let [library, baseline] = micros.map(|micros| work / micros);
     let text = format!("  {what} a second");
-    println!("{text:30}{library:10.0}{baseline:10.0}");
+    println!("{text:38}{library:10.0}{baseline:10.0}");
 }
 
 /// Prints the bytes of one program's saves under each rule; the first is the measure of the others.

@@ -4,7 +4,7 @@
 use differential::buffer::Buffer;
 use differential::call::{number_bytes, words, Call, Callee, Entry, Library, Reference};
 use differential::examples::programs;
-use reference::journal::{read, ERASED, MAX_CHIP};
+use reference::journal::{read, BYTE_CHIP, ERASED, MAX_CHIP};
 use reference::layout::STATE_BYTES;
 
 use crate::baseline::{DEAD_WORDS, SET_WORDS};
@@ -91,6 +91,6 @@ fn saves(callee: &impl Callee, plan: &[u8], sets: &[u64], readings: &[i32]) -> V
     call.entry = Entry::Run;
     assert_eq!(callee.answer(&mut call), 0, "the run is accepted");
     assert_eq!(call.ran().ended, 1, "the plan ends");
-    let held = read(plan, call.chip.lent()).expect("the chip is sound");
+    let held = read(plan, call.chip.lent(), BYTE_CHIP).expect("the chip is sound");
     held.saves.iter().map(|save| save.bytes().len()).collect()
 }

@@ -1,17 +1,17 @@
 //! The calls of recovery and run that are timed, and their plans.
 
 use differential::buffer::Buffer;
-use differential::call::{number_bytes, words, Call};
+use differential::call::{number_bytes, words, Call, Entry};
 use differential::examples::SMALL;
-use reference::journal::{ERASED, MAX_CHIP};
-use reference::layout::{run_bytes, STATE_BYTES};
-use reference::machine::{Ended, State};
+use reference::journal::{BYTE_CHIP, ERASED, MAX_CHIP, PAGE_CHIP};
+use reference::layout::STATE_BYTES;
+use reference::machine::{Ended, Machine, State};
 use reference::program::{
     ADD, CHECKPOINT, COPY, DIV, EMIT, EXCLUDE, GET, JUMP, LESS, PUT, READ, SET, SUB,
 };
 
 use crate::baseline::SET_WORDS;
-use crate::journals::{chips, PLAN};
+use crate::journals::{byte_chips, page_chips, PLAN};
 use crate::plans::plans;
 
 fn set(cell: u8, value: i32) -> Vec<u8> {
@@ -65,6 +65,13 @@ fn save_len(cells: usize) -> u64 {
     6 * cells as u64 + 14
 }
 
+/// The steps in which `saves` fills a page chip of the greatest length: three commands and the pages of each save.
+fn page_chip_steps(cells: usize) -> u64 {
+    let pages = save_len(cells).div_ceil(PAGE_CHIP as u64);
+    let chip_pages = (MAX_CHIP / PAGE_CHIP) as u64;
+    chip_pages / pages * (3 + pages)
+}
+
 /// A call of run from a state, on an erased chip, with empty sets.
 fn run_call(plan: &[u8], chip: usize, state: &State, budget: u64) -> Call {
     let (sets, chip) = ([0; SET_WORDS], vec![ERASED; chip]);
@@ -74,13 +81,23 @@ fn run_call(plan: &[u8], chip: usize, state: &State, budget: u64) -> Call {
     }
 }
 
+/// The same call for a page chip, on which the chip and state that it is lent are sound too.
+fn on_pages(call: Call) -> Call {
+    let entry = match call.entry {
+        Entry::Recover => Entry::PageRecover,
+        _ => Entry::PageRun,
+    };
+    Call { entry, ..call }
+}
+
 /// A run of one step of a plan that has taken so many already.
 fn one_step_after(plan: &[u8], steps: u64) -> Call {
     let mut call = run_call(plan, 4_096, &State::first(), 1);
     let readings: Vec<i32> = (0..100).map(|k| k % 2).collect();
     let (sets, room) = (words(call.sets.lent()), 100);
     let (chip, state) = (call.chip.lend(), call.state.lend());
-    let ran = run_bytes(plan, &sets, chip, state, &readings, room, steps);
+    let ran = Machine::new(plan, &sets, BYTE_CHIP)
+        .and_then(|machine| machine.run_bytes(chip, state, &readings, room, steps));
     let ran = ran.expect("the run is accepted");
     assert_eq!(ran.ended, Ended::Spent, "the plan goes on");
     call.readings = Buffer::plain(&number_bytes(&readings[ran.taken..]));
@@ -102,6 +119,7 @@ pub fn one_step() -> Vec<(&'static str, Call)> {
         calls.push((name, one_step_after(&plan, steps)));
     }
     calls.extend(one_step_of_saves());
+    calls.push(("a page stored", page_stored()));
     calls
 }
 
@@ -122,11 +140,22 @@ fn one_step_of_saves() -> [(&'static str, Call); 4] {
     .map(|(name, state)| (name, run_call(&saves(256), 4_096, &state, 1)))
 }
 
+/// A step within a save, at about the same place as the byte stored.
+fn page_stored() -> Call {
+    let mut storing = State::first();
+    storing.place = SAVES_AT;
+    storing.saving = Some(704);
+    on_pages(run_call(&saves(256), 4_096, &storing, 1))
+}
+
 /// Calls of recovery on full chips, with their names.
 pub fn recoveries() -> Vec<(&'static str, Call)> {
     let call = |chip: &[u8]| Call::recover(PLAN, &[0; SET_WORDS], chip, &[0; STATE_BYTES]);
-    let chips = chips().into_iter();
-    chips.map(|(name, chip)| (name, call(&chip))).collect()
+    let of_bytes = byte_chips().into_iter();
+    let of_bytes = of_bytes.map(|(name, chip)| (name, call(&chip)));
+    let of_pages = page_chips().into_iter();
+    let of_pages = of_pages.map(|(name, chip)| (name, on_pages(call(&chip))));
+    of_bytes.chain(of_pages).collect()
 }
 
 /// Calls of run that store one whole save, with their names.
@@ -141,9 +170,11 @@ pub fn whole_saves() -> Vec<(&'static str, Call)> {
         .into()
 }
 
-/// Calls of run with a large budget, with their names: the last takes 30,000 readings and gives as many outputs.
+/// Calls of run with a large budget, with their names. READ and EMIT takes 30,000 readings and gives as many outputs; the
+/// runs on page chips fill them.
 pub fn long_runs() -> Vec<(&'static str, Call)> {
     let of = |plan: &[u8], chip, budget| run_call(plan, chip, &State::first(), budget);
+    let filling = |cells| on_pages(of(&saves(cells), MAX_CHIP, page_chip_steps(cells)));
     let stream = [0, READ, 0, EMIT, 0, JUMP, 1, 0];
     let numbers: Vec<i32> = (0..30_000).map(|k| k * 41 - 7).collect();
     let streaming = Call {
@@ -157,5 +188,7 @@ pub fn long_runs() -> Vec<(&'static str, Call)> {
         ("saves of 256 cells", of(&saves(256), MAX_CHIP, 66_000)),
         ("saves of 16 cells", of(&saves(16), MAX_CHIP, 66_000)),
         ("READ and EMIT", streaming),
+        ("saves of 256 cells, pages", filling(256)),
+        ("saves of 16 cells, pages", filling(16)),
     ]
 }

@@ -1,44 +1,60 @@
 //! Holds the plain chip reader to the reference, so that the library is timed against what is right.
 
 use bench::baseline::check;
-use bench::journals::{chips, read, Held, PLAN};
+use bench::journals::{byte_chips, page_chips, read, Held, PLAN};
 use differential::journals::{altered, plans, stored};
 use differential::rng::Rng;
-use reference::journal;
+use reference::journal::{self, BYTE_CHIP, MAX_CHIP, PAGE_CHIP};
 
 /// Asserts that both give the same, and gives the result.
 #[track_caller]
-fn agreed(plan: &[u8], chip: &[u8]) -> u32 {
-    let expected = journal::read(plan, chip).map(|chip| Held {
+fn agreed<const PAGE: usize>(plan: &[u8], chip: &[u8]) -> u32 {
+    let expected = journal::read(plan, chip, PAGE).map(|chip| Held {
         end: chip.end,
         torn: chip.torn,
         last: chip.last(),
         values: std::array::from_fn(|cell| chip.value(cell as u8) as u32),
     });
     let cells = check(plan).expect("the plan is accepted").cells as usize;
-    let found = read(plan, cells, chip);
+    let found = read::<PAGE>(plan, cells, chip);
     assert_eq!(found, expected, "plan {plan:02X?} chip {chip:02X?}");
     found.err().unwrap_or(0)
 }
 
 #[test]
 fn the_timed_chips() {
-    for (name, chip) in chips() {
-        assert!(chip.len() <= journal::MAX_CHIP, "{name}");
-        assert_eq!(agreed(PLAN, &chip), 0, "{name}");
+    for (name, chip) in byte_chips() {
+        assert!(chip.len() <= MAX_CHIP, "{name}");
+        assert_eq!(agreed::<BYTE_CHIP>(PLAN, &chip), 0, "{name}");
+    }
+    for (name, chip) in page_chips() {
+        assert_eq!(chip.len(), MAX_CHIP, "{name}");
+        assert_eq!(agreed::<PAGE_CHIP>(PLAN, &chip), 0, "{name}");
     }
 }
 
 #[test]
-fn random_chips() {
+fn random_byte_chips() {
+    random_chips::<BYTE_CHIP>();
+}
+
+#[test]
+fn random_page_chips() {
+    random_chips::<PAGE_CHIP>();
+}
+
+fn random_chips<const PAGE: usize>() {
     let mut rng = Rng::new(0x5EED_0000_C41B_0001);
     let plans = plans();
     let mut accepted = 0;
+    let mut hits = [0; 13];
     for _ in 0..20_000 {
         let plan = &plans[rng.below(plans.len())];
-        let chip = stored(&mut rng, plan);
-        accepted += usize::from(agreed(plan, &chip) == 0);
-        agreed(plan, &altered(&mut rng, chip));
+        let chip = stored(&mut rng, plan, PAGE);
+        accepted += usize::from(agreed::<PAGE>(plan, &chip) == 0);
+        hits[agreed::<PAGE>(plan, &altered(&mut rng, chip)) as usize] += 1;
     }
     assert_eq!(accepted, 20_000);
+    println!("pages of {PAGE}, altered chips with the answers 0 to 12: {hits:?}");
+    assert!(hits[0] >= 1_000 && hits[12] >= 1_000);
 }

@@ -5,6 +5,7 @@ use bench::lent::Plain;
 use bench::timed::{long_runs, one_step, recoveries, whole_saves};
 use differential::call::{agree, Entry, Library};
 use differential::seeded::seeded;
+use reference::journal::{read, PAGE_CHIP};
 
 #[test]
 fn calls_from_seeds() {
@@ -13,6 +14,8 @@ fn calls_from_seeds() {
         (Entry::Analyse, 1_000, 10),
         (Entry::Recover, 20_000, 13),
         (Entry::Run, 20_000, 12),
+        (Entry::PageRecover, 20_000, 13),
+        (Entry::PageRun, 20_000, 12),
     ] {
         let mut hits = [0; 13];
         for seed in 0..calls {
@@ -47,7 +50,24 @@ fn the_timed_calls_do_what_their_names_say() {
         let last = call.budget as usize - 2;
         assert_eq!(left.chip.lent()[last..last + 2], [0x5A, 0xFF], "{name}");
     }
-    let (name, stream) = long_runs().pop().expect("there are long runs");
-    let ran = agree(&Plain, &stream).expect(name).1.ran();
+}
+
+#[test]
+fn the_long_runs_do_what_their_names_say() {
+    let runs = long_runs();
+    let left = |name: &str| {
+        let (_, call) = runs.iter().find(|(of, _)| *of == name).expect(name);
+        agree(&Plain, call).expect(name).1
+    };
+    let ran = left("READ and EMIT").ran();
     assert_eq!((ran.ended, ran.taken, ran.given), (4, 30_000, 30_000));
+    // So many saves fill all pages but fewer than one more has.
+    for (name, saves) in [
+        ("saves of 256 cells, pages", 42),
+        ("saves of 16 cells, pages", 585),
+    ] {
+        let left = left(name);
+        let held = read(left.plan.lent(), left.chip.lent(), PAGE_CHIP).expect(name);
+        assert_eq!((held.saves.len(), held.torn), (saves, 0), "{name}");
+    }
 }

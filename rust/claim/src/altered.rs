@@ -19,9 +19,9 @@ pub enum Alter {
     KeptByPassedOver,
     /// The analysis takes a PUT for a sure write of its whole table.
     SurePut,
-    /// The torn bytes are erased from the lowest address on.
+    /// The torn pages are erased from the lowest address on.
     EraseUpward,
-    /// Recovery takes a save for whole that lacks its final 5A.
+    /// Recovery takes a save for whole that lacks its last page, or a part of it.
     WholeBefore5A,
     /// EMIT raises the count, and where the budget ends there the value is never handed on.
     CountedBeforeGiven,
@@ -45,6 +45,14 @@ pub enum Alter {
     RecoveryErases,
     /// The answer of a run of several steps has one more.
     InventsAStep,
+    /// Behind its MARK the page of a save is filled with 00.
+    FillsWithZeros,
+    /// Recovery counts the torn bytes and not their pages.
+    TornBytes,
+    /// Recovery goes on right behind the last MARK.
+    GoesOnBehindMark,
+    /// Recovery goes on a page later where the last MARK ends one.
+    GoesOnPageLater,
 }
 
 /// A sound engine with the alteration.
@@ -63,10 +71,10 @@ impl<E: Engine> Engine for Altered<E> {
     }
 
     fn recover(&self, lent: Lent) -> Result<(), u32> {
-        let (chip, state) = (lent.chip, lent.state);
+        let (page, chip, state) = (lent.page, lent.chip, lent.state);
         let mut seen = chip.to_vec();
         if self.alter == Alter::WholeBefore5A {
-            add_final_byte(lent.plan, &mut seen);
+            add_final_page(lent.plan, page, &mut seen);
         }
         let answer = self.engine.recover(Lent {
             chip: &mut seen,
@@ -74,7 +82,7 @@ impl<E: Engine> Engine for Altered<E> {
             ..lent
         });
         match answer {
-            Ok(()) => self.alter_recovered(chip, state),
+            Ok(()) => self.alter_recovered(page, chip, state),
             Err(_) => self.alter_refused(state),
         }
         answer
@@ -87,7 +95,8 @@ impl<E: Engine> Engine for Altered<E> {
         outputs: &mut [i32],
         budget: u64,
     ) -> Result<Ran, u32> {
-        let (plan, sets, chip, state) = (lent.plan, lent.sets, lent.chip, lent.state);
+        let (plan, sets, page) = (lent.plan, lent.sets, lent.page);
+        let (chip, state) = (lent.chip, lent.state);
         let budget = self.alter_budget(budget, state)?;
         let mut ran = Ran::default();
         let mut gave = false;
@@ -96,6 +105,7 @@ impl<E: Engine> Engine for Altered<E> {
             let lent = Lent {
                 plan,
                 sets,
+                page,
                 chip,
                 state,
             };
@@ -107,7 +117,7 @@ impl<E: Engine> Engine for Altered<E> {
             if next.steps == 0 {
                 return Ok(self.altered_answer(ran, gave));
             }
-            self.alter_step(plan, &before, chip, state);
+            self.alter_step(plan, page, &before, chip, state);
             gave = next.written > 0;
         }
     }
@@ -144,9 +154,16 @@ impl<E> Altered<E> {
         }
     }
 
-    fn alter_recovered(&self, chip: &mut [u8], state: &mut [u8]) {
+    fn alter_recovered(&self, page: usize, chip: &mut [u8], state: &mut [u8]) {
         let mut recovered = State::from_bytes(state).expect("recovery leaves a state");
+        let (saves, rest) = chip.split_at(recovered.write as usize);
+        let torn = without_trailing_ff(rest);
         match self.alter {
+            Alter::TornBytes => recovered.erase = torn as u32,
+            Alter::GoesOnBehindMark => recovered.write = without_trailing_ff(saves) as u32,
+            Alter::GoesOnPageLater if saves.last() == Some(&MARK_END) => {
+                recovered.write += page as u32;
+            }
             Alter::CountsAhead => recovered.outputs = recovered.outputs.wrapping_add(1),
             Alter::RecoveryErases => chip[recovered.write as usize..].fill(ERASED),
             _ => {}
@@ -154,14 +171,18 @@ impl<E> Altered<E> {
         state.copy_from_slice(&recovered.to_bytes());
     }
 
-    fn alter_step(&self, plan: &[u8], before: &Before, chip: &mut [u8], bytes: &mut [u8]) {
+    fn alter_step(
+        &self,
+        plan: &[u8],
+        page: usize,
+        before: &Before,
+        chip: &mut [u8],
+        bytes: &mut [u8],
+    ) {
         let after = State::from_bytes(bytes).expect("a step leaves a state");
         let Some(state) = &before.state else { return };
         let mut altered = after.clone();
-        let command = match state.erase == 0 && state.saving.is_none() {
-            true => plan[state.place as usize],
-            false => 0,
-        };
+        let command = command_due(plan, state);
         let write = state.write as usize;
         match (self.alter, state.saving) {
             (Alter::DeadStaysDead, _) if command == EXCLUDE => {
@@ -172,10 +193,15 @@ impl<E> Altered<E> {
             }
             (Alter::EraseUpward, _) if state.erase > 0 => {
                 chip[write..].copy_from_slice(&before.chip[write..]);
-                erase_lowest(&mut chip[write..]);
+                erase_lowest(page, &mut chip[write..]);
             }
             (Alter::OnlySaysSo, Some(stored)) if stored < state.write => {
-                chip[write] = before.chip[write];
+                chip[write..].copy_from_slice(&before.chip[write..]);
+            }
+            (Alter::FillsWithZeros, Some(_)) if after.saving.is_none() => {
+                let last = &mut chip[write..write + page];
+                let filling = without_trailing_ff(last);
+                last[filling..].fill(0x00);
             }
             (Alter::ErasesForever, _) => altered.erase = state.erase,
             (Alter::OtherStop, _) => altered.stop = after.stop.map(|_| Stop::Divisor),
@@ -198,6 +224,14 @@ impl<E> Altered<E> {
     }
 }
 
+/// The command byte that is due, or 0 while pages are to be erased or stored.
+fn command_due(plan: &[u8], state: &State) -> u8 {
+    match state.erase == 0 && state.saving.is_none() {
+        true => plan[state.place as usize],
+        false => 0,
+    }
+}
+
 fn keep_dead(before: &[Mark], after: &mut [Mark]) {
     for (before, after) in before.iter().zip(after) {
         if (*before, *after) == (Mark::Dead, Mark::Pending) {
@@ -212,21 +246,30 @@ fn keep_pending(marks: &mut [Mark]) {
     }
 }
 
-fn erase_lowest(chip: &mut [u8]) {
-    if let Some(lowest) = chip.iter_mut().find(|byte| **byte != ERASED) {
-        *lowest = ERASED;
+/// How many bytes there are up to the last that is not FF.
+fn without_trailing_ff(bytes: &[u8]) -> usize {
+    let last = bytes.iter().rposition(|&byte| byte != ERASED);
+    last.map_or(0, |last| last + 1)
+}
+
+fn erase_lowest(page: usize, chip: &mut [u8]) {
+    let is_stored = |page: &&mut [u8]| page.iter().any(|&byte| byte != ERASED);
+    if let Some(lowest) = chip.chunks_exact_mut(page).find(is_stored) {
+        lowest.fill(ERASED);
     }
 }
 
-/// Puts 5A behind torn bytes that lack nothing else of a save.
-fn add_final_byte(plan: &[u8], chip: &mut [u8]) {
-    let ends = |chip: &[u8]| read(plan, chip).map(|held| (held.end, held.end + held.torn));
-    if let Ok((_, last)) = ends(chip) {
-        if last < chip.len() {
-            chip[last] = MARK_END;
-            if ends(chip) != Ok((last + 1, last + 1)) {
-                chip[last] = ERASED;
-            }
-        }
+/// Makes the torn bytes a whole save where at most a page, of zeros and the final 5A, does it.
+fn add_final_page(plan: &[u8], page: usize, chip: &mut [u8]) {
+    let saves = |chip: &[u8]| read(plan, chip, page).map(|held| held.saves.len());
+    let stored = without_trailing_ff(chip);
+    let whole = (1..=page.min(chip.len() - stored)).find_map(|missing| {
+        let mut ended = chip.to_vec();
+        ended[stored..stored + missing].fill(0x00);
+        ended[stored + missing - 1] = MARK_END;
+        (saves(&ended).ok()? > saves(chip).ok()?).then_some(ended)
+    });
+    if let Some(whole) = whole {
+        chip.copy_from_slice(&whole);
     }
 }

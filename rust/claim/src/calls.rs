@@ -1,6 +1,6 @@
 //! Calls of any content, most of which are refused. A refused call among those of a list must alter nothing.
 
-use reference::journal::MAX_CHIP;
+use reference::journal::{BYTE_CHIP, MAX_CHIP, PAGE_CHIP};
 use reference::layout::{NUMBERS_AT, STATE_BYTES};
 use reference::machine::SET_WORDS;
 
@@ -32,28 +32,39 @@ const REFUSED: [&str; 13] = [
 struct Content {
     plan: Vec<u8>,
     sets: Vec<u64>,
+    page: usize,
     chip: Vec<u8>,
     state: Vec<u8>,
     outputs: Vec<i32>,
 }
 
+impl Content {
+    /// What the list would lend, for either kind of chip, with one or two things spoiled.
+    fn spoiled<E: Engine>(watch: &Watch<E>, rng: &mut Rng) -> Content {
+        let mut content = Content {
+            plan: watch.plan().to_vec(),
+            sets: watch.sets().to_vec(),
+            page: rng.pick(&[BYTE_CHIP, PAGE_CHIP]),
+            chip: watch.chip().to_vec(),
+            state: watch.state().to_vec(),
+            outputs: vec![-77; rng.below(4)],
+        };
+        for _ in 0..1 + rng.below(2) {
+            spoil_content(&mut content, rng);
+        }
+        content
+    }
+}
+
 /// Makes a call of random content, where the list stands. It gets copies of the list's chip and state, so that it
 /// alters nothing where it is accepted: then it is no call of the list.
 pub fn try_call<E: Engine>(watch: &mut Watch<E>, rng: &mut Rng) -> Result<(), Violation> {
-    let mut content = Content {
-        plan: watch.plan().to_vec(),
-        sets: watch.sets().to_vec(),
-        chip: watch.chip().to_vec(),
-        state: watch.state().to_vec(),
-        outputs: vec![-77; rng.below(4)],
-    };
-    for _ in 0..1 + rng.below(2) {
-        spoil_content(&mut content, rng);
-    }
+    let mut content = Content::spoiled(watch, rng);
     let before = content.clone();
     let lent = Lent {
         plan: &content.plan,
         sets: &content.sets,
+        page: content.page,
         chip: &mut content.chip,
         state: &mut content.state,
     };
@@ -68,6 +79,9 @@ pub fn try_call<E: Engine>(watch: &mut Watch<E>, rng: &mut Rng) -> Result<(), Vi
     let is_number = (number as usize) < REFUSED.len();
     if (number == 0 || content == before) && is_number {
         watch.met.count(REFUSED[number as usize]);
+        if number > 0 && content.page != watch.page() {
+            watch.met.count("refused calls of the other kind");
+        }
         return Ok(());
     }
     Err(Violation {

@@ -1,12 +1,13 @@
 //! What an engine is to the harness, and the Rust version as one.
 
-use reference::layout::{recover_bytes, run_bytes};
-use reference::Analysis;
+use reference::{Analysis, Machine};
 
-/// What the host lends to every call. A state is bytes, as docs/STATE.md lays them out.
+/// What the host lends to every call, and the page length of the chip, which says for which kind the call is. A state is
+/// bytes, as docs/STATE.md lays them out.
 pub struct Lent<'a> {
     pub plan: &'a [u8],
     pub sets: &'a [u64],
+    pub page: usize,
     pub chip: &'a mut [u8],
     pub state: &'a mut [u8],
 }
@@ -65,7 +66,7 @@ impl Engine for Reference {
     }
 
     fn recover(&self, lent: Lent) -> Result<(), u32> {
-        recover_bytes(lent.plan, lent.sets, lent.chip, lent.state)
+        Machine::new(lent.plan, lent.sets, lent.page)?.recover_bytes(lent.chip, lent.state)
     }
 
     fn run(
@@ -76,8 +77,8 @@ impl Engine for Reference {
         budget: u64,
     ) -> Result<Ran, u32> {
         let room = outputs.len();
-        let (chip, state) = (lent.chip, lent.state);
-        let ran = run_bytes(lent.plan, lent.sets, chip, state, readings, room, budget)?;
+        let machine = Machine::new(lent.plan, lent.sets, lent.page)?;
+        let ran = machine.run_bytes(lent.chip, lent.state, readings, room, budget)?;
         outputs[..ran.given.len()].copy_from_slice(&ran.given);
         Ok(Ran {
             ended: ran.ended.number(),

@@ -1,8 +1,9 @@
 //! Document 01's demand 3, tested: the claim of its section 'Lists, cuts and the uncut run', over random lists of
-//! recoveries, runs, cuts and refused calls. The engine under test is handed in (`Engine`). `Watch` makes the calls,
-//! keeps the tally, and holds every answer, chip and state to the section's sentences and to the uncut run. `list`
-//! draws a list from a seed, `plans` its plan, `calls` the refused calls. `altered` has engines with one error each, on
-//! which the watch has to fail.
+//! recoveries, runs, cuts and refused calls, for either kind of chip (document 02, Q-4): the accepted calls of a list
+//! are all for one page length. The engine under test is handed in (`Engine`). `Watch` makes the calls, keeps the tally,
+//! and holds every answer, chip and state to the section's sentences and to the uncut run. `list` draws a list from a
+//! seed, `plans` its plan, `calls` the refused calls. `altered` has engines with one error each, on which the watch has
+//! to fail.
 
 pub mod altered;
 pub mod calls;

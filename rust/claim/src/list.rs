@@ -1,4 +1,4 @@
-//! Random lists of calls, each drawn from a seed.
+//! Random lists of calls for one kind of chip, each drawn from a seed.
 
 use std::ops::Range;
 use std::thread::{available_parallelism, scope};
@@ -14,10 +14,11 @@ use crate::rng::Rng;
 use crate::sentence::{Sentence, Violation};
 use crate::watch::{Start, Watch};
 
-/// Watches the lists of these seeds, on as many threads as the machine runs at once. Gives the lowest seed whose list
-/// violates a sentence, if one does.
+/// Watches the lists of these seeds for chips of a page length, on as many threads as the machine runs at once. Gives the
+/// lowest seed whose list violates a sentence, if one does.
 pub fn watch_lists(
     engine: &(impl Engine + Sync),
+    page: usize,
     seeds: Range<u64>,
     met: &mut Met,
 ) -> Result<(), (u64, Violation)> {
@@ -25,7 +26,7 @@ pub fn watch_lists(
     let outcomes: Vec<_> = scope(|scope| {
         let spawn = |first: usize| {
             let seeds = seeds.clone().skip(first).step_by(count);
-            scope.spawn(move || watch_some(engine, seeds))
+            scope.spawn(move || watch_some(engine, page, seeds))
         };
         let threads: Vec<_> = (0..count).map(spawn).collect();
         let joined = threads.into_iter().map(|thread| thread.join());
@@ -45,21 +46,27 @@ pub fn watch_lists(
 /// Watches the lists up to the first that violates a sentence.
 fn watch_some(
     engine: &impl Engine,
+    page: usize,
     mut seeds: impl Iterator<Item = u64>,
 ) -> (Met, Option<(u64, Violation)>) {
     let mut met = Met::default();
     let violated = seeds.find_map(|seed| {
-        let violation = watch_list(engine, seed, &mut met).err()?;
+        let violation = watch_list(engine, page, seed, &mut met).err()?;
         Some((seed, violation))
     });
     (met, violated)
 }
 
-/// Watches the list of this seed, and adds what it met.
-pub fn watch_list(engine: &impl Engine, seed: u64, met: &mut Met) -> Result<(), Violation> {
+/// Watches the list of this seed for a chip of this page length, and adds what it met.
+pub fn watch_list(
+    engine: &impl Engine,
+    page: usize,
+    seed: u64,
+    met: &mut Met,
+) -> Result<(), Violation> {
     // An odd factor spreads neighbouring seeds, and takes none but 0 to 0.
     let mut rng = Rng::new((seed + 1).wrapping_mul(0x9E37_79B9_7F4A_7C15));
-    let mut watch = Watch::new(engine, start(&mut rng));
+    let mut watch = Watch::new(engine, start(&mut rng, page));
     watch.met = std::mem::take(met);
     watch.met.count("lists");
     let outcome = call_all(&mut watch, &mut rng);
@@ -67,13 +74,14 @@ pub fn watch_list(engine: &impl Engine, seed: u64, met: &mut Met) -> Result<(), 
     outcome
 }
 
-fn start(rng: &mut Rng) -> Start {
+fn start(rng: &mut Rng, page: usize) -> Start {
     Start {
         plan: plan(rng),
         readings: readings(rng),
+        page,
         chip: match rng.below(4) {
-            0 => rng.below(60),
-            _ => rng.below(401),
+            0 => rng.below(60).next_multiple_of(page),
+            _ => rng.below(401).next_multiple_of(page),
         },
         state: spoiled(&[0; STATE_BYTES], rng),
         sets: (0..SET_WORDS + rng.below(3)).map(|_| rng.word()).collect(),
@@ -114,8 +122,16 @@ fn call_when_good<E: Engine>(watch: &mut Watch<E>, rng: &mut Rng) -> Result<(), 
         1 => watch.recover()?,
         2 => watch.cut(spoiled(watch.state(), rng)),
         3..7 => run(watch, rng)?,
-        _ => {
+        7..10 => {
             run(watch, rng)?;
+            watch.cut(spoiled(watch.state(), rng));
+        }
+        _ => {
+            // A save has few pages on a page chip, so that other cuts seldom fall between them.
+            watch.run_between_pages(2 + rng.below(2), 40)?;
+            watch.cut(spoiled(watch.state(), rng));
+            watch.recover()?;
+            watch.run_between_pages(1, 40)?;
             watch.cut(spoiled(watch.state(), rng));
         }
     }

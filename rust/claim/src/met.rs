@@ -3,8 +3,10 @@
 use std::collections::BTreeMap;
 use std::fmt;
 
+use reference::journal::BYTE_CHIP;
+
 /// How much of what a thousand lists have to meet at least, or their test has shown too little.
-const FLOORS: [(&str, u64); 24] = [
+const FLOORS: [(&str, u64); 25] = [
     ("whole saves", 1000),
     ("torn saves", 400),
     ("saves passed over", 1000),
@@ -17,6 +19,7 @@ const FLOORS: [(&str, u64); 24] = [
     ("fresh outputs", 1000),
     ("repeated outputs", 400),
     ("stops reached", 250),
+    ("refused calls of the other kind", 250),
     ("refused 1", 10),
     ("refused 2", 10),
     ("refused 3", 10),
@@ -30,6 +33,9 @@ const FLOORS: [(&str, u64); 24] = [
     ("refused 11", 10),
     ("refused 12", 10),
 ];
+
+/// The same for what only lists for a page chip meet.
+const FLOORS_OF_PAGES: [(&str, u64); 1] = [("saves with filling", 1000)];
 
 #[derive(Clone, Debug, Default)]
 pub struct Met(BTreeMap<&'static str, u64>);
@@ -54,9 +60,12 @@ impl Met {
         self.0.get(name).copied().unwrap_or(0)
     }
 
-    /// Asserts that the lists met enough of everything.
-    pub fn assert_floors(&self) {
+    /// Asserts that the lists for chips of this page length met enough of everything.
+    pub fn assert_floors(&self, page: usize) {
         self.assert_floors_per("lists", &FLOORS);
+        if page > BYTE_CHIP {
+            self.assert_floors_per("lists", &FLOORS_OF_PAGES);
+        }
     }
 
     /// Asserts that every thousand of what is named met as much as the floors say.

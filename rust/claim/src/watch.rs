@@ -22,11 +22,12 @@ use crate::step::Step;
 /// Up to how many commands the watch looks for the uncut run's stop.
 const LIMIT: usize = 400;
 
-/// What a list begins with: a plan and its readings, the length of an erased chip, any state, and any words for the
-/// sets, which the engine's analysis fills.
+/// What a list begins with: a plan and its readings, the page length and the length of an erased chip, any state, and any
+/// words for the sets, which the engine's analysis fills.
 pub struct Start {
     pub plan: Vec<u8>,
     pub readings: Vec<i32>,
+    pub page: usize,
     pub chip: usize,
     pub state: Vec<u8>,
     pub sets: Vec<u64>,
@@ -41,18 +42,19 @@ struct Point {
     /// The tally just after the last final byte, or 0.
     saved: usize,
     highest: usize,
-    /// Steps and erased bytes since the last accepted recovery.
+    /// Steps, and those of them that erased, since the last accepted recovery.
     steps: u64,
     erased: u64,
     /// The outputs so far, repetitions aside.
     so_far: Vec<i32>,
 }
 
-/// A list of calls to an engine, with one plan and one list of readings.
+/// A list of calls to an engine, with one plan, one list of readings and one kind of chip.
 pub struct Watch<'e, E> {
     engine: &'e E,
     plan: Vec<u8>,
     sets: Vec<u64>,
+    page: usize,
     readings: Vec<i32>,
     /// The dead cells before each command, by the reference's analysis.
     dead: BTreeMap<u32, Set>,
@@ -73,6 +75,7 @@ impl<'e, E: Engine> Watch<'e, E> {
         Watch {
             engine,
             sets,
+            page: start.page,
             dead: dead_sets(&start.plan),
             plan: start.plan,
             readings: start.readings,
@@ -103,6 +106,10 @@ impl<'e, E: Engine> Watch<'e, E> {
 
     pub fn sets(&self) -> &[u64] {
         &self.sets
+    }
+
+    pub fn page(&self) -> usize {
+        self.page
     }
 
     pub fn chip(&self) -> &[u8] {
@@ -165,7 +172,7 @@ impl<'e, E: Engine> Watch<'e, E> {
     /// The state that a recovery leaves, which must be accepted and leave the chip alone.
     fn recovered(&self) -> Result<Vec<u8>, Violation> {
         let mut left = self.point.clone();
-        let lent = lend(&self.plan, &self.sets, &mut left);
+        let lent = lend(&self.plan, &self.sets, self.page, &mut left);
         let answer = self.engine.recover(lent);
         let before = &self.point.chip;
         let refused = || format!("{answer:?}, chip {}", shown(before));
@@ -175,16 +182,12 @@ impl<'e, E: Engine> Watch<'e, E> {
         Ok(left.state)
     }
 
-    /// A cut, after which the state holds what is given. A save is torn where some of its bytes are stored and not all;
-    /// erasing is cut where some torn bytes are erased and not all.
+    /// A cut, after which the state holds what is given.
     pub fn cut(&mut self, spoiled: Vec<u8>) {
         self.met.count("cuts");
         if let (true, Some(state)) = (self.good, State::from_bytes(&self.point.state)) {
-            if state.saving.is_some_and(|stored| stored > 0) {
-                self.met.count("torn saves");
-            }
-            if state.erase > 0 && self.point.erased > 0 {
-                self.met.count("cuts in erasing");
+            if let Some(name) = between_pages(&state, self.point.erased) {
+                self.met.count(name);
             }
         }
         self.point.state = spoiled;
@@ -193,12 +196,29 @@ impl<'e, E: Engine> Watch<'e, E> {
 
     /// A run, lent so many of the untaken readings and places for so many outputs.
     pub fn run(&mut self, lent: usize, room: usize, budget: u64) -> Result<Ran, Violation> {
+        self.run_to(lent, room, budget, usize::MAX)
+    }
+
+    /// A run with all that it needs, which ends where it stands between two pages for the `times`-th time, or else with
+    /// the budget.
+    pub fn run_between_pages(&mut self, times: usize, budget: u64) -> Result<Ran, Violation> {
+        let untaken = self.untaken();
+        self.run_to(untaken, budget as usize, budget, times)
+    }
+
+    fn run_to(
+        &mut self,
+        lent: usize,
+        room: usize,
+        budget: u64,
+        times: usize,
+    ) -> Result<Ran, Violation> {
         assert!(self.good, "a run on a spoiled state is in no list");
         let next = self.readings.len() - self.untaken();
         let readings = self.readings[next..next + lent].to_vec();
         let before = self.point.clone();
         let mut walked = vec![0; room];
-        let expected = self.walk(&readings, &mut walked, budget)?;
+        let (expected, budget) = self.walk(&readings, &mut walked, budget, times)?;
 
         let mut left = Point {
             chip: before.chip,
@@ -206,7 +226,7 @@ impl<'e, E: Engine> Watch<'e, E> {
             ..self.point.clone()
         };
         let mut outputs = vec![0; room];
-        let lent = lend(&self.plan, &self.sets, &mut left);
+        let lent = lend(&self.plan, &self.sets, self.page, &mut left);
         let ran = accepted(self.engine.run(lent, &readings, &mut outputs, budget))?;
         self.met.count("runs");
         let (from, to) = (before.tally, left.tally);
@@ -219,18 +239,20 @@ impl<'e, E: Engine> Watch<'e, E> {
         Ok(ran)
     }
 
-    /// Takes the steps of a run one by one, from where the list stands to where the run leaves it.
+    /// Takes the steps of a run one by one, from where the list stands to where the run leaves it, or to where it stands
+    /// between two pages for the `times`-th time. Gives the budget too, which then is the number of these steps.
     fn walk(
         &mut self,
         readings: &[i32],
         outputs: &mut [i32],
-        budget: u64,
-    ) -> Result<Ran, Violation> {
+        mut budget: u64,
+        mut times: usize,
+    ) -> Result<(Ran, u64), Violation> {
         let mut walked = Ran::default();
         let mut before = state_of(&self.point)?;
         loop {
             let one = (budget - walked.steps).min(1);
-            let lent = lend(&self.plan, &self.sets, &mut self.point);
+            let lent = lend(&self.plan, &self.sets, self.page, &mut self.point);
             let room = &mut outputs[walked.written..];
             let ran = accepted(self.engine.run(lent, &readings[walked.taken..], room, one))?;
             let too_many = || format!("{} steps with budget {one}", ran.steps);
@@ -239,7 +261,11 @@ impl<'e, E: Engine> Watch<'e, E> {
             self.note(&before, &after, ran, room)?;
             walked = walked.then(ran);
             if ran.steps == 0 {
-                return Ok(walked);
+                return Ok((walked, budget));
+            }
+            if between_pages(&after, self.point.erased).is_some() {
+                times -= 1;
+                budget = if times == 0 { walked.steps } else { budget };
             }
             before = after;
         }
@@ -256,6 +282,7 @@ impl<'e, E: Engine> Watch<'e, E> {
         let from = self.point.tally;
         if ran.steps == 1 {
             self.step(Step::between(&self.plan, before, after));
+            self.count_filling(before, after);
         }
         let to = self.point.tally;
         check_traffic(&mut self.record, from, to, ran, outputs)?;
@@ -282,9 +309,18 @@ impl<'e, E: Engine> Watch<'e, E> {
             Step::PassedOver => self.met.count("saves passed over"),
             Step::Erased => {
                 point.erased += 1;
-                self.met.count("bytes erased");
+                self.met.add("bytes erased", self.page as u64);
             }
             Step::Command | Step::Began | Step::Stored => {}
+        }
+    }
+
+    /// Counts a save whose last page is filled behind its MARK.
+    fn count_filling(&mut self, before: &State, after: &State) {
+        let is_whole = before.saving.is_some() && after.saving.is_none();
+        let stored = self.point.chip.get(..after.write as usize);
+        if is_whole && stored.is_some_and(|bytes| bytes.ends_with(&[ERASED])) {
+            self.met.count("saves with filling");
         }
     }
 
@@ -305,12 +341,23 @@ impl<'e, E: Engine> Watch<'e, E> {
     }
 }
 
-fn lend<'a>(plan: &'a [u8], sets: &'a [u64], point: &'a mut Point) -> Lent<'a> {
+fn lend<'a>(plan: &'a [u8], sets: &'a [u64], page: usize, point: &'a mut Point) -> Lent<'a> {
     Lent {
         plan,
         sets,
+        page,
         chip: &mut point.chip,
         state: &mut point.state,
+    }
+}
+
+/// What a cut is called that falls between two pages, where so many were erased since the last recovery: a save is torn
+/// where some of its pages are stored and not all; erasing is cut where some torn pages are erased and not all.
+fn between_pages(state: &State, erased: u64) -> Option<&'static str> {
+    match state.saving {
+        Some(1..) => Some("torn saves"),
+        None if state.erase > 0 && erased > 0 => Some("cuts in erasing"),
+        _ => None,
     }
 }
 
@@ -408,6 +455,7 @@ mod tests {
     use super::*;
     use crate::engine::Reference;
     use crate::plans::SMALL;
+    use reference::journal::BYTE_CHIP;
     use reference::machine::SET_WORDS;
 
     /// A plan before its first call, with document 01's readings.
@@ -415,6 +463,7 @@ mod tests {
         let start = Start {
             plan: plan.to_vec(),
             readings: vec![5, 7, -2],
+            page: BYTE_CHIP,
             chip: 0,
             state: vec![0xFF; STATE_BYTES],
             sets: vec![0; SET_WORDS],

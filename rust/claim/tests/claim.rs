@@ -1,14 +1,17 @@
-//! Document 01's demand 3 on the Rust version, over random lists of calls; and that the same lists find each of the
-//! altered engines.
+//! Document 01's demand 3 on the Rust version, over random lists of calls for either kind of chip; and that the same
+//! lists find each of the altered engines.
 
 use std::env;
 use std::ops::Range;
 
 use claim::altered::{Alter, Altered};
 use claim::{watch_list, watch_lists, Engine, Met, Reference, Sentence};
+use reference::journal::{BYTE_CHIP, PAGE_CHIP};
 
-/// The lists for the Rust version, unless `CLAIM_LISTS` says another number.
-const LISTS: u64 = 6_000;
+/// The lists for the Rust version and each kind of chip, unless `CLAIM_LISTS` says another number.
+const LISTS: u64 = 4_000;
+
+const KINDS: [usize; 2] = [BYTE_CHIP, PAGE_CHIP];
 
 /// The lists within which an altered engine must be caught.
 const FEW: Range<u64> = 0..1_000;
@@ -28,34 +31,48 @@ const OF_THE_CLAIM: [Sentence; 11] = [
     Sentence::StopReached,
 ];
 
-/// The first of few seeds whose list the altered engine violates in one of these sentences.
-fn caught(alter: Alter, by: &[Sentence]) {
+/// The first of few seeds whose list for this kind the altered engine violates in one of these sentences.
+fn caught(alter: Alter, page: usize, by: &[Sentence]) {
     let engine = Altered {
         engine: Reference,
         alter,
     };
-    let violation = |seed| watch_list(&engine, seed, &mut Met::default()).err();
+    let violation = |seed| watch_list(&engine, page, seed, &mut Met::default()).err();
     let (seed, violation) = FEW
         .filter_map(|seed| Some((seed, violation(seed)?)))
         .find(|(_, violation)| by.contains(&violation.sentence))
-        .unwrap_or_else(|| panic!("{alter:?} is not caught by the seeds {FEW:?}"));
-    println!("{alter:?}, seed {seed}: {violation}");
+        .unwrap_or_else(|| panic!("{alter:?}, pages of {page}, is not caught by {FEW:?}"));
+    println!("{alter:?}, pages of {page}, seed {seed}: {violation}");
 }
 
 #[track_caller]
 fn keeps_the_claim(engine: &(impl Engine + Sync), seeds: Range<u64>) {
-    let mut met = Met::default();
-    if let Err((seed, violation)) = watch_lists(engine, seeds, &mut met) {
-        panic!("seed {seed}: {violation}");
+    for page in KINDS {
+        let mut met = Met::default();
+        if let Err((seed, violation)) = watch_lists(engine, page, seeds.clone(), &mut met) {
+            panic!("pages of {page}, seed {seed}: {violation}");
+        }
+        println!("Lists for chips with pages of {page}:");
+        print!("{met}");
+        met.assert_floors(page);
     }
-    print!("{met}");
-    met.assert_floors();
 }
 
 #[test]
 fn the_rust_version_keeps_the_claim() {
     let lists = env::var("CLAIM_LISTS").map_or(LISTS, |number| number.parse().unwrap());
     keeps_the_claim(&Reference, 0..lists);
+}
+
+/// What the two kinds share holds for any page length.
+#[test]
+fn pages_of_any_length_keep_the_claim() {
+    for page in BYTE_CHIP + 1..PAGE_CHIP {
+        let watched = watch_lists(&Reference, page, 0..100, &mut Met::default());
+        if let Err((seed, violation)) = watched {
+            panic!("pages of {page}, seed {seed}: {violation}");
+        }
+    }
 }
 
 #[test]
@@ -78,7 +95,23 @@ fn the_errors_to_rule_out_are_caught_by_the_claim() {
         Alter::CountedBeforeGiven,
         Alter::OnlySaysSo,
     ] {
-        caught(alter, &OF_THE_CLAIM);
+        for page in KINDS {
+            caught(alter, page, &OF_THE_CLAIM);
+        }
+    }
+}
+
+/// Filling that is not tested, a length that is not, and a save that fits without its filling alone are not among them:
+/// no list has the chip that would show them.
+#[test]
+fn errors_of_pages_are_caught_by_the_claim() {
+    for alter in [
+        Alter::FillsWithZeros,
+        Alter::TornBytes,
+        Alter::GoesOnBehindMark,
+        Alter::GoesOnPageLater,
+    ] {
+        caught(alter, PAGE_CHIP, &OF_THE_CLAIM);
     }
 }
 
@@ -100,6 +133,8 @@ fn each_sentence_is_seen_to_fail() {
         (Alter::RecoveryErases, Sentence::ChipByRecovery),
         (Alter::InventsAStep, Sentence::StepsOfRun),
     ] {
-        caught(alter, &[sentence]);
+        for page in KINDS {
+            caught(alter, page, &[sentence]);
+        }
     }
 }

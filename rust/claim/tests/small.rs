@@ -3,6 +3,7 @@
 
 use claim::plans::SMALL;
 use claim::{Reference, Start, Watch};
+use reference::journal::{BYTE_CHIP, ERASED, PAGE_CHIP};
 use reference::layout::STATE_BYTES;
 use reference::machine::SET_WORDS;
 
@@ -11,10 +12,11 @@ const READINGS: [i32; 3] = [5, 7, -2];
 /// Room for every output.
 const ROOM: usize = 100;
 
-fn small(chip: usize) -> Watch<'static, Reference> {
+fn small(page: usize, chip: usize) -> Watch<'static, Reference> {
     let start = Start {
         plan: SMALL.to_vec(),
         readings: READINGS.to_vec(),
+        page,
         chip,
         state: vec![0xA5; STATE_BYTES],
         sets: vec![0; SET_WORDS],
@@ -40,7 +42,7 @@ fn recover(watch: &mut Watch<Reference>) {
 
 #[test]
 fn the_tally_when_cut_after_33_bytes() {
-    let mut watch = small(60);
+    let mut watch = small(BYTE_CHIP, 60);
     recover(&mut watch);
     // SET, READ, ADD, EMIT, EXCLUDE, and the CHECKPOINT that begins to save.
     run(&mut watch, 6);
@@ -72,7 +74,7 @@ fn the_tally_when_cut_after_33_bytes() {
 
 #[test]
 fn a_save_passed_over_counts_at_once() {
-    let mut watch = small(19);
+    let mut watch = small(BYTE_CHIP, 19);
     recover(&mut watch);
     run(&mut watch, 6);
     assert_eq!((watch.tally(), watch.met.get("saves passed over")), (6, 1));
@@ -81,16 +83,39 @@ fn a_save_passed_over_counts_at_once() {
     assert_eq!((watch.tally(), watch.met.get("cuts")), (0, 1));
 }
 
-/// SET, then for each reading four commands, a CHECKPOINT with its 20 bytes, and JUMP.
-const STEPS: u64 = 1 + 3 * (4 + 1 + 20 + 1);
-
 #[test]
-fn every_cut_and_every_second_cut() {
+fn the_tally_when_cut_between_two_pages() {
+    let mut watch = small(PAGE_CHIP, 64);
+    recover(&mut watch);
+    // SET, READ, ADD, EMIT, EXCLUDE, the CHECKPOINT that begins to save, and the first page.
+    run(&mut watch, 7);
+    assert_eq!((watch.tally(), watch.chip()[15]), (5, 0x01));
+    watch.cut(vec![0x00; STATE_BYTES]);
+    recover(&mut watch);
+    assert_eq!((watch.tally(), watch.untaken()), (0, 3));
+    // The page is erased, then two rounds are saved, and the third save finds no room.
+    run(&mut watch, 1);
+    assert_eq!((watch.tally(), watch.chip()), (0, &[ERASED; 64][..]));
+    assert_eq!(run(&mut watch, 1000), (5, 1 + 2 * (4 + 1 + 2 + 1) + 6));
+    assert_eq!((watch.tally(), watch.so_far()), (19, &[5, 12, 10][..]));
+    assert_eq!(watch.met.get("saves with filling"), 2);
+    assert_eq!(watch.met.get("saves passed over"), 1);
+}
+
+/// The steps of the plan where each save takes so many: SET, then for each reading four commands, a CHECKPOINT with its
+/// pages, and JUMP.
+const fn steps(pages: u64) -> u64 {
+    1 + 3 * (4 + 1 + pages + 1)
+}
+
+/// Cuts the plan after each step, and after each of the steps that follow, and gives how many saves were torn and how
+/// many cuts fell in erasing.
+fn cut_twice(page: usize, chip: usize, steps: u64) -> (u64, u64) {
     let mut torn = 0;
     let mut in_erasing = 0;
-    for first in 0..=STEPS {
+    for first in 0..=steps {
         for second in 0..=30 {
-            let mut watch = small(60);
+            let mut watch = small(page, chip);
             for budget in [first, second] {
                 recover(&mut watch);
                 run(&mut watch, budget);
@@ -103,7 +128,21 @@ fn every_cut_and_every_second_cut() {
             in_erasing += watch.met.get("cuts in erasing");
         }
     }
+    (torn, in_erasing)
+}
+
+#[test]
+fn every_cut_and_every_second_cut() {
+    let (torn, in_erasing) = cut_twice(BYTE_CHIP, 60, steps(20));
     // The first cut tears each save after 1 to 19 bytes. Of such a number b, b - 1 second cuts fall in erasing.
     assert!(torn >= 31 * 3 * 19, "{torn}");
     assert_eq!(in_erasing, 3 * (0..19).sum::<u64>());
+}
+
+#[test]
+fn every_cut_and_every_second_cut_between_pages() {
+    let (torn, in_erasing) = cut_twice(PAGE_CHIP, 96, steps(2));
+    // A save has two pages, so only one can be torn, and no cut falls in its erasing.
+    assert!(torn >= 31 * 3, "{torn}");
+    assert_eq!(in_erasing, 0);
 }

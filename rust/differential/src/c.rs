@@ -23,38 +23,48 @@ extern "C" {
         sets: *mut u8,
         sets_len: usize,
     ) -> u32;
-
-    pub fn pitskelo_recover(
-        plan: *const u8,
-        plan_len: usize,
-        sets: *const u8,
-        sets_len: usize,
-        chip: *const u8,
-        chip_len: usize,
-        state: *mut u8,
-        state_len: usize,
-    ) -> u32;
-
-    pub fn pitskelo_run(
-        plan: *const u8,
-        plan_len: usize,
-        sets: *const u8,
-        sets_len: usize,
-        chip: *mut u8,
-        chip_len: usize,
-        state: *mut u8,
-        state_len: usize,
-        readings: *const u8,
-        readings_len: usize,
-        outputs: *mut u8,
-        outputs_len: usize,
-        budget: u64,
-        ended: *mut u32,
-        steps: *mut u64,
-        taken: *mut u64,
-        given: *mut u64,
-    ) -> u32;
 }
+
+/// The entries of a kind of chip: those of every kind have the same parameters in the same order.
+macro_rules! chip_entries {
+    ($recover:ident, $run:ident) => {
+        extern "C" {
+            fn $recover(
+                plan: *const u8,
+                plan_len: usize,
+                sets: *const u8,
+                sets_len: usize,
+                chip: *const u8,
+                chip_len: usize,
+                state: *mut u8,
+                state_len: usize,
+            ) -> u32;
+
+            fn $run(
+                plan: *const u8,
+                plan_len: usize,
+                sets: *const u8,
+                sets_len: usize,
+                chip: *mut u8,
+                chip_len: usize,
+                state: *mut u8,
+                state_len: usize,
+                readings: *const u8,
+                readings_len: usize,
+                outputs: *mut u8,
+                outputs_len: usize,
+                budget: u64,
+                ended: *mut u32,
+                steps: *mut u64,
+                taken: *mut u64,
+                given: *mut u64,
+            ) -> u32;
+        }
+    };
+}
+
+chip_entries!(pitskelo_recover, pitskelo_run);
+chip_entries!(pitskelo_page_recover, pitskelo_page_run);
 
 /// The verified library, through C.
 pub struct Library;
@@ -64,8 +74,8 @@ impl Callee for Library {
         match call.entry {
             Entry::Check => check(call),
             Entry::Analyse => analyse(call),
-            Entry::Recover => recover(call),
-            Entry::Run => run(call),
+            Entry::Recover | Entry::PageRecover => recover(call),
+            Entry::Run | Entry::PageRun => run(call),
         }
     }
 }
@@ -92,7 +102,7 @@ fn lower(number: &mut u64) -> *mut u32 {
     (number as *mut u64).cast()
 }
 
-// SAFETY, for the four calls: a buffer's pointer and length go together, the interface takes a null pointer with length
+// SAFETY, for all calls: a buffer's pointer and length go together, the interface takes a null pointer with length
 // 0 for an empty slice, and what is borrowed by `&mut` overlaps nothing else.
 
 fn check(call: &mut Call) -> u32 {
@@ -114,8 +124,12 @@ fn recover(call: &mut Call) -> u32 {
     let (sets, sets_len) = slice(&call.sets, call.nulls);
     let (chip, chip_len) = slice(&call.chip, call.nulls);
     let (state, state_len) = slice_mut(&mut call.state, call.nulls);
+    let recover = match call.entry {
+        Entry::PageRecover => pitskelo_page_recover,
+        _ => pitskelo_recover,
+    };
     unsafe {
-        pitskelo_recover(
+        recover(
             plan, plan_len, sets, sets_len, chip, chip_len, state, state_len,
         )
     }
@@ -129,8 +143,12 @@ fn run(call: &mut Call) -> u32 {
     let (readings, readings_len) = slice(&call.readings, call.nulls);
     let (outputs, outputs_len) = slice_mut(&mut call.outputs, call.nulls);
     let [ended, steps, taken, given] = &mut call.numbers;
+    let run = match call.entry {
+        Entry::PageRun => pitskelo_page_run,
+        _ => pitskelo_run,
+    };
     unsafe {
-        pitskelo_run(
+        run(
             plan,
             plan_len,
             sets,

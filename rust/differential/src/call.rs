@@ -1,7 +1,8 @@
-//! A call of one of the C interface's four entries: all that is lent to it, who answers it (the library through C, or
-//! the reference), and how two answers are compared, every byte of every buffer included.
+//! A call of one of the C interface's six entries: all that is lent to it, who answers it (the library through C, or the
+//! reference), and how two answers are compared, every byte of every buffer included.
 
-use reference::layout::{recover_bytes, run_bytes};
+use reference::journal::{BYTE_CHIP, PAGE_CHIP};
+use reference::Machine;
 
 use crate::buffer::Buffer;
 
@@ -17,6 +18,36 @@ pub enum Entry {
     Analyse,
     Recover,
     Run,
+    PageRecover,
+    PageRun,
+}
+
+impl Entry {
+    /// The recovery of chips of this page length.
+    pub fn recover(page: usize) -> Entry {
+        Entry::of_kind(page, [Entry::Recover, Entry::PageRecover])
+    }
+
+    /// The run on chips of this page length.
+    pub fn run(page: usize) -> Entry {
+        Entry::of_kind(page, [Entry::Run, Entry::PageRun])
+    }
+
+    fn of_kind(page: usize, [of_bytes, of_pages]: [Entry; 2]) -> Entry {
+        match page {
+            BYTE_CHIP => of_bytes,
+            PAGE_CHIP => of_pages,
+            _ => panic!("no entry has pages of {page} bytes"),
+        }
+    }
+
+    /// The page length of its chips; check and analyse have none.
+    pub fn page(self) -> usize {
+        match self {
+            Entry::PageRecover | Entry::PageRun => PAGE_CHIP,
+            _ => BYTE_CHIP,
+        }
+    }
 }
 
 /// What is lent to a call. An entry uses what its declaration has and must leave the rest alone.
@@ -66,7 +97,7 @@ impl Call {
         }
     }
 
-    /// A recovery, lent these.
+    /// A recovery of a byte chip, lent these.
     pub fn recover(plan: &[u8], sets: &[u64], chip: &[u8], state: &[u8]) -> Call {
         Call {
             plan: Buffer::plain(plan),
@@ -77,7 +108,7 @@ impl Call {
         }
     }
 
-    /// A run, lent these, but no reading, no place for an output and no budget yet.
+    /// A run on a byte chip, lent these, but no reading, no place for an output and no budget yet.
     pub fn run(plan: &[u8], sets: &[u64], chip: &[u8], state: &[u8]) -> Call {
         Call {
             entry: Entry::Run,
@@ -180,8 +211,8 @@ impl Callee for Reference {
         let answer = match call.entry {
             Entry::Check => expect_check(call),
             Entry::Analyse => expect_analyse(call),
-            Entry::Recover => expect_recover(call),
-            Entry::Run => expect_run(call),
+            Entry::Recover | Entry::PageRecover => expect_recover(call),
+            Entry::Run | Entry::PageRun => expect_run(call),
         };
         answer.err().unwrap_or(0)
     }
@@ -213,7 +244,8 @@ fn expect_analyse(call: &mut Call) -> Result<(), u32> {
 
 fn expect_recover(call: &mut Call) -> Result<(), u32> {
     let sets = words(call.sets.lent());
-    recover_bytes(call.plan.lent(), &sets, call.chip.lent(), call.state.lend())
+    let machine = Machine::new(call.plan.lent(), &sets, call.entry.page())?;
+    machine.recover_bytes(call.chip.lent(), call.state.lend())
 }
 
 fn expect_run(call: &mut Call) -> Result<(), u32> {
@@ -221,8 +253,8 @@ fn expect_run(call: &mut Call) -> Result<(), u32> {
     let readings = numbers(call.readings.lent());
     let room = call.outputs.len() / 4;
     let (chip, state) = (call.chip.lend(), call.state.lend());
-    let plan = call.plan.lent();
-    let ran = run_bytes(plan, &sets, chip, state, &readings, room, call.budget)?;
+    let machine = Machine::new(call.plan.lent(), &sets, call.entry.page())?;
+    let ran = machine.run_bytes(chip, state, &readings, room, call.budget)?;
     put_numbers(call.outputs.lend(), &ran.given);
     let [ended, steps, taken, given] = &mut call.numbers;
     set_lower(ended, ran.ended.number());

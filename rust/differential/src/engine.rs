@@ -3,7 +3,9 @@
 use claim::{Engine, Lent, Ran};
 
 use crate::buffer::Buffer;
-use crate::call::{number_bytes, numbers, word_bytes, words, Call, Callee, Library, DEAD_WORDS};
+use crate::call::{
+    number_bytes, numbers, word_bytes, words, Call, Callee, Entry, Library, DEAD_WORDS,
+};
 
 impl Engine for Library {
     fn analyse(&self, plan: &[u8], sets: &mut [u64]) {
@@ -15,7 +17,10 @@ impl Engine for Library {
     }
 
     fn recover(&self, lent: Lent) -> Result<(), u32> {
-        let mut call = Call::recover(lent.plan, lent.sets, lent.chip, lent.state);
+        let mut call = Call {
+            entry: Entry::recover(lent.page),
+            ..Call::recover(lent.plan, lent.sets, lent.chip, lent.state)
+        };
         let result = self.answer(&mut call);
         give_back(&call, lent);
         accepted(result)
@@ -29,6 +34,7 @@ impl Engine for Library {
         budget: u64,
     ) -> Result<Ran, u32> {
         let mut call = Call {
+            entry: Entry::run(lent.page),
             readings: Buffer::plain(&number_bytes(readings)),
             outputs: Buffer::plain(&number_bytes(outputs)),
             budget,

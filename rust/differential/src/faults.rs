@@ -1,7 +1,7 @@
 //! What a hostile call is made of: plans that check refuses, chips that recovery refuses, and buffers that are too short
 //! or too long.
 
-use reference::journal::{ERASED, MARK, MARK_END, MAX_CHIP, RECORD};
+use reference::journal::{read, ERASED, MARK, MARK_END, MAX_CHIP, RECORD};
 use reference::program::{
     EMIT, END, EXCLUDE, FIRST_INSTRUCTION, GET, JUMP, LENGTHS, MAX_BYTES, PUT,
 };
@@ -126,8 +126,48 @@ pub fn short_words(rng: &mut Rng, least: usize) -> usize {
 /// A chip over 65,536 bytes that begins as the one given does.
 pub fn long_chip(rng: &mut Rng, mut chip: Vec<u8>) -> Vec<u8> {
     let fill = rng.pick(&[ERASED, ERASED, 0x00]);
-    chip.resize(MAX_CHIP + 1 + rng.below(9), fill);
+    let more = match rng.below(3) {
+        0 => rng.pick(&[1, 15, 16, 32]),
+        _ => 1 + rng.below(9),
+    };
+    chip.resize(MAX_CHIP + more, fill);
     chip
+}
+
+/// A chip that begins as the one given does and is no number of whole pages.
+pub fn broken_page(rng: &mut Rng, mut chip: Vec<u8>, page: usize) -> Vec<u8> {
+    let whole = chip.len() / page * page;
+    let length = match rng.below(6) {
+        0 => rng.pick(&[page - 1, page + 1]),
+        1 => MAX_CHIP - rng.pick(&[1, page - 1, page + 1]),
+        2 => whole + page - 1,
+        3 => whole + 1,
+        _ => whole + 1 + rng.below(page - 1),
+    };
+    chip.resize(length, ERASED);
+    chip
+}
+
+/// The sound chip with one wrong byte in the filling behind one of its saves, if one has filling.
+pub fn filling(rng: &mut Rng, plan: &[u8], mut chip: Vec<u8>, page: usize) -> Option<Vec<u8>> {
+    let mut filling = Vec::new();
+    let mut end = 0;
+    for save in read(plan, &chip, page).ok()?.saves {
+        let mark_end = end + save.bytes().len();
+        end += save.pages(page).len();
+        filling.extend(mark_end..end);
+    }
+    if filling.is_empty() {
+        return None;
+    }
+    let at = match rng.below(4) {
+        0 => filling[0],
+        1 => filling[filling.len() - 1],
+        _ => rng.pick(&filling),
+    };
+    let any = rng.below(255) as u8;
+    chip[at] = rng.pick(&[RECORD, MARK, MARK_END, 0x00, 0xFE, any]);
+    Some(chip)
 }
 
 /// A chip that recovery often refuses: altered, of bytes that mean something, or of any.

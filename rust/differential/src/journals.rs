@@ -1,4 +1,4 @@
-//! Random chips: as the engine leaves them, and altered.
+//! Random chips of either kind: as the engine leaves them, and altered.
 
 use reference::check;
 use reference::journal::{Mark, Save, ERASED, MARK, MARK_END, RECORD};
@@ -83,35 +83,39 @@ const FIRST: Mark = Mark {
     outputs: 0,
 };
 
-/// A chip as the engine leaves it: sound saves, often a part of one more, and FF.
-pub fn stored(rng: &mut Rng, plan: &[u8]) -> Vec<u8> {
+/// A chip of this page length as the engine leaves it: sound saves, often a part of one more, and FF.
+/// The part ends with a page, or anywhere in one, which recovery takes too.
+pub fn stored(rng: &mut Rng, plan: &[u8], page: usize) -> Vec<u8> {
     let mut chip = Vec::new();
     let mut last = FIRST;
     for _ in 0..rng.below(4) {
         let save = save(rng, plan, last);
         last = save.mark;
-        chip.extend(save.bytes());
+        chip.extend(save.pages(page));
     }
     let next = save(rng, plan, last).bytes();
-    chip.extend(&next[..rng.below(next.len())]);
+    let part = rng.below(next.len());
+    let in_page = rng.pick(&[0, part % page]);
+    chip.extend(&next[..part - in_page]);
     let erased = rng.pick(&[0, 0, 1, 7, 40]);
-    chip.resize(chip.len() + erased, ERASED);
+    chip.resize((chip.len() + erased).next_multiple_of(page), ERASED);
     chip
 }
 
-/// A chip of this length that is filled with sound saves, as many as there is room for, and FF.
-pub fn filled(rng: &mut Rng, plan: &[u8], length: usize) -> Vec<u8> {
+/// A chip of this length, which is a number of pages, that is filled with sound saves, as many as
+/// there is room for, and FF.
+pub fn filled(rng: &mut Rng, plan: &[u8], length: usize, page: usize) -> Vec<u8> {
     let mut chip = Vec::new();
     let mut last = FIRST;
     loop {
         let save = save(rng, plan, last);
-        let bytes = save.bytes();
-        if chip.len() + bytes.len() > length {
+        let pages = save.pages(page);
+        if chip.len() + pages.len() > length {
             chip.resize(length, ERASED);
             return chip;
         }
         last = save.mark;
-        chip.extend(bytes);
+        chip.extend(pages);
     }
 }
 

@@ -1,8 +1,9 @@
 //! Calls of the C entries, each drawn from a seed. Those of even seeds have no fault and are accepted; those of odd seeds
 //! are hostile: something of what is lent is wrong, often two things at once.
 
-use reference::journal::{ERASED, MAX_CHIP};
-use reference::layout::{recover_bytes, run_bytes, STATE_BYTES};
+use reference::journal::{BYTE_CHIP, ERASED, MAX_CHIP, PAGE_CHIP};
+use reference::layout::STATE_BYTES;
+use reference::Machine;
 
 use crate::buffer::Buffer;
 use crate::call::{number_bytes, words, Call, Entry, DEAD_WORDS, SET_WORDS};
@@ -11,7 +12,7 @@ use crate::faults;
 use crate::journals::{self, filled, stored};
 use crate::plans::{crowded, large, long, reversed, stream, valid, woven, Draft};
 use crate::rng::Rng;
-use crate::states::{faulty, sound, value, Shape};
+use crate::states::{faulty, in_save, sound, value, Shape};
 
 /// A call, and the names of its faults.
 pub struct Seeded {
@@ -50,7 +51,8 @@ struct Content {
 }
 
 fn content(rng: &mut Rng, entry: Entry) -> Content {
-    let many = entry == Entry::Run && rng.below(12) == 0;
+    let is_run = matches!(entry, Entry::Run | Entry::PageRun);
+    let many = is_run && rng.below(12) == 0;
     let mut content = Content {
         plan: match many {
             true => stream(rng).bytes,
@@ -64,8 +66,8 @@ fn content(rng: &mut Rng, entry: Entry) -> Content {
             content.dead = vec![rng.byte(); 8 * DEAD_WORDS + rng.below(20)];
             content.sets = vec![rng.byte(); 8 * SET_WORDS + rng.below(20)];
         }
-        Entry::Recover => content.for_recover(rng),
-        Entry::Run => content.for_run(rng, many),
+        Entry::Recover | Entry::PageRecover => content.for_recover(rng, entry.page()),
+        Entry::Run | Entry::PageRun => content.for_run(rng, entry.page(), many),
     }
     content
 }
@@ -163,24 +165,27 @@ fn numbers(rng: &mut Rng, count: usize) -> Vec<u8> {
 
 impl Content {
     fn has_checkpoint(&self) -> bool {
-        !Shape::of(&self.plan).checkpoints.is_empty()
+        !Shape::of(&self.plan, BYTE_CHIP).checkpoints.is_empty()
     }
 
-    /// A chip as the engine leaves it; seldom a large one, which takes the reference long.
-    fn sound_chip(&self, rng: &mut Rng) -> Vec<u8> {
+    /// A chip of this page length as the engine leaves it; seldom a large one, which takes the reference long where saves
+    /// fill it.
+    fn sound_chip(&self, rng: &mut Rng, page: usize) -> Vec<u8> {
+        let ends = [PAGE_CHIP, MAX_CHIP - PAGE_CHIP, MAX_CHIP];
         match (self.has_checkpoint(), rng.below(200)) {
-            (false, _) => vec![ERASED; rng.below(100)],
-            (true, 0) => {
+            (_, 0..3) => vec![ERASED; rng.pick(&ends)],
+            (false, _) => vec![ERASED; rng.below(100).next_multiple_of(page)],
+            (true, 3) => {
                 let length = rng.pick(&[4_000, 20_000, MAX_CHIP]);
-                filled(rng, &self.plan, length)
+                filled(rng, &self.plan, length, page)
             }
-            (true, _) => stored(rng, &self.plan),
+            (true, _) => stored(rng, &self.plan, page),
         }
     }
 
-    fn for_recover(&mut self, rng: &mut Rng) {
+    fn for_recover(&mut self, rng: &mut Rng, page: usize) {
         self.sets = sets(rng, &self.plan);
-        self.chip = self.sound_chip(rng);
+        self.chip = self.sound_chip(rng, page);
         self.state = match rng.below(2) {
             0 => vec![rng.byte(); STATE_BYTES],
             _ => (0..STATE_BYTES).map(|_| rng.byte()).collect(),
@@ -188,51 +193,54 @@ impl Content {
     }
 
     /// What a run is lent; `many` readings and places for outputs where the plan uses them.
-    fn for_run(&mut self, rng: &mut Rng, many: bool) {
+    fn for_run(&mut self, rng: &mut Rng, page: usize, many: bool) {
         self.sets = sets(rng, &self.plan);
         let (readings, room) = (how_many(rng, many), how_many(rng, many));
         self.readings = numbers(rng, readings);
         self.outputs = vec![rng.byte(); 4 * room + rng.below(4)];
         self.budget = budget(rng, many);
         match rng.below(4) {
-            0 => self.reach(rng),
-            _ => self.stand(rng),
+            0 => self.reach(rng, page).expect("the engine goes on"),
+            _ => self.stand(rng, page),
         }
     }
 
     /// A chip of any bytes and a sound state.
-    fn stand(&mut self, rng: &mut Rng) {
+    fn stand(&mut self, rng: &mut Rng, page: usize) {
         let length = match rng.below(100) {
-            0 => MAX_CHIP,
-            1..10 => rng.below(4_000),
-            10..30 => rng.below(40),
-            _ => rng.below(400),
+            0 => rng.pick(&[MAX_CHIP, MAX_CHIP - PAGE_CHIP, PAGE_CHIP]),
+            1..10 => rng.below(4_000).next_multiple_of(page),
+            10..30 => rng.below(40).next_multiple_of(page),
+            _ => rng.below(400).next_multiple_of(page),
         };
         self.chip = match rng.below(2) {
             0 => vec![ERASED; length],
             _ => (0..length).map(|_| rng.byte()).collect(),
         };
-        let shape = Shape::of(&self.plan);
+        let shape = Shape::of(&self.plan, page);
         self.state = sound(rng, &shape, length).to_bytes().into();
     }
 
-    /// The chip and the state that a recovery and a run leave.
-    fn reach(&mut self, rng: &mut Rng) {
-        self.chip = self.sound_chip(rng);
-        self.chip.resize(self.chip.len() + rng.below(200), ERASED);
-        self.chip.truncate(MAX_CHIP);
-        self.state = vec![0; STATE_BYTES];
+    /// The chip and the state that a recovery and a run leave, or their refusal.
+    fn reach(&mut self, rng: &mut Rng, page: usize) -> Result<(), u32> {
+        let mut chip = self.sound_chip(rng, page);
+        let length = (chip.len() + rng.below(200)).next_multiple_of(page);
+        chip.resize(length.min(MAX_CHIP), ERASED);
+        let mut state = vec![0; STATE_BYTES];
         let sets = words(&self.sets);
-        let (chip, state) = (&mut self.chip, &mut self.state);
-        let plan = &self.plan;
-        recover_bytes(plan, &sets, chip, state).expect("the engine leaves a sound chip");
+        let machine = Machine::new(&self.plan, &sets, page)?;
+        machine.recover_bytes(&chip, &mut state)?;
         let budget = rng.below(80) as u64;
-        let ran = run_bytes(plan, &sets, chip, state, &[3, -1, 7, 0], 9, budget);
-        ran.expect("recovery leaves a sound state");
+        machine.run_bytes(&mut chip, &mut state, &[3, -1, 7, 0], 9, budget)?;
+        (self.chip, self.state) = (chip, state);
+        Ok(())
     }
 
     /// Spoils something of what the entry is lent, and gives the fault's name.
     fn spoil(&mut self, rng: &mut Rng, entry: Entry) -> &'static str {
+        if let Some(fault) = self.spoil_kind(rng, entry) {
+            return fault;
+        }
         match (entry, rng.below(10)) {
             (Entry::Check, _) | (_, 0..4) => self.spoil_plan(rng),
             (Entry::Analyse, 4..7) => {
@@ -249,17 +257,68 @@ impl Content {
                 self.chip = faults::long_chip(rng, std::mem::take(&mut self.chip));
                 "a chip that is too long"
             }
-            (Entry::Recover, 6) => {
+            (Entry::Recover | Entry::PageRecover, 6) => {
                 let length = rng.pick(&[0, STATE_BYTES - 1, STATE_BYTES + 1, 2 * STATE_BYTES]);
                 self.state.resize(length, 0);
                 "a state of another length"
             }
-            (Entry::Recover, _) => {
+            (Entry::Recover | Entry::PageRecover, _) => {
                 self.chip = faults::chip(rng, std::mem::take(&mut self.chip));
                 "an altered chip"
             }
-            (Entry::Run, _) => self.spoil_state(rng),
+            (Entry::Run | Entry::PageRun, _) => self.spoil_state(rng, entry.page()),
         }
+    }
+
+    /// Now and then spoils something that has to do with the kinds of chip, where the plan is accepted and saves.
+    fn spoil_kind(&mut self, rng: &mut Rng, entry: Entry) -> Option<&'static str> {
+        let is_accepted = reference::check(&self.plan).is_ok();
+        let page = entry.page();
+        let other = BYTE_CHIP + PAGE_CHIP - page;
+        match (entry, rng.below(16)) {
+            _ if !is_accepted || !self.has_checkpoint() => None,
+            (Entry::Recover | Entry::PageRecover, 0..2) => {
+                self.chip = stored(rng, &self.plan, other);
+                self.fill_page(page);
+                Some("a chip of the other kind")
+            }
+            (Entry::Run | Entry::PageRun, 0..2) => {
+                self.reach(rng, other).ok()?;
+                self.fill_page(page);
+                Some("chip and state of the other kind")
+            }
+            (Entry::PageRecover | Entry::PageRun, 2..4) => {
+                self.chip = faults::broken_page(rng, std::mem::take(&mut self.chip), page);
+                Some("a chip that is no whole pages")
+            }
+            (Entry::PageRecover, 4..7) => {
+                let sound = stored(rng, &self.plan, page);
+                self.chip = faults::filling(rng, &self.plan, sound, page)?;
+                Some("filling with a wrong byte")
+            }
+            (Entry::PageRun, 4..6) => self.leave_no_filling(rng, page),
+            _ => None,
+        }
+    }
+
+    /// Makes the chip a number of whole pages, so that its length is no ground for a refusal.
+    fn fill_page(&mut self, page: usize) {
+        let length = self.chip.len().next_multiple_of(page);
+        self.chip.resize(length, ERASED);
+    }
+
+    /// A state that saves, and a chip that ends between the save's MARK and its filling's end.
+    fn leave_no_filling(&mut self, rng: &mut Rng, page: usize) -> Option<&'static str> {
+        let shape = Shape::of(&self.plan, page);
+        let state = in_save(rng, &shape, 400)?;
+        let end = state.write as usize + shape.save(&state) - state.saving? as usize;
+        let filling = end.next_multiple_of(page) - end;
+        if filling == 0 {
+            return None;
+        }
+        self.chip.resize(end + rng.below(filling), ERASED);
+        self.state = state.to_bytes().into();
+        Some("a save that fits but for its filling")
     }
 
     fn spoil_plan(&mut self, rng: &mut Rng) -> &'static str {
@@ -270,12 +329,12 @@ impl Content {
         "an altered plan"
     }
 
-    fn spoil_state(&mut self, rng: &mut Rng) -> &'static str {
+    fn spoil_state(&mut self, rng: &mut Rng, page: usize) -> &'static str {
         if reference::check(&self.plan).is_err() {
             self.state = vec![rng.byte(); STATE_BYTES];
             return "a state of any bytes";
         }
-        let (name, state) = faulty(rng, &Shape::of(&self.plan), self.chip.len());
+        let (name, state) = faulty(rng, &Shape::of(&self.plan, page), self.chip.len());
         self.state = state;
         name
     }

@@ -1,4 +1,5 @@
-//! Random states of the machine: sound ones, and sound ones with one fault, for which a run must give 10.
+//! Random states of the machine for either kind of chip: sound ones, and sound ones with one fault, for which a run must
+//! give 10.
 
 use claim::calls::spoiled;
 use reference::layout::{NUMBERS_AT, STATE_BYTES};
@@ -7,8 +8,10 @@ use reference::program::{CHECKPOINT, EXCLUDE, FIRST_INSTRUCTION, LENGTHS};
 
 use crate::rng::Rng;
 
-/// What of an accepted plan decides which states are sound: its cells and its commands' offsets.
+/// What of an accepted plan and of its chip's kind decides which states are sound: the page length, the plan's cells and
+/// its commands' offsets.
 pub struct Shape {
+    pub page: usize,
     pub cells: usize,
     pub commands: Vec<u32>,
     pub excludes: Vec<u32>,
@@ -16,8 +19,9 @@ pub struct Shape {
 }
 
 impl Shape {
-    pub fn of(plan: &[u8]) -> Shape {
+    pub fn of(plan: &[u8], page: usize) -> Shape {
         let mut shape = Shape {
+            page,
             cells: usize::from(plan[0]) + 1,
             commands: Vec::new(),
             excludes: Vec::new(),
@@ -36,10 +40,15 @@ impl Shape {
         shape
     }
 
-    /// The length of the save that the state would begin.
-    fn save(&self, state: &State) -> usize {
+    /// The length of the save that the state would begin, without filling.
+    pub fn save(&self, state: &State) -> usize {
         let stored = |mark: &&Mark| matches!(mark, Mark::Include | Mark::Pending);
         6 * state.marks[..self.cells].iter().filter(stored).count() + 14
+    }
+
+    /// The same with its filling.
+    fn pages(&self, state: &State) -> usize {
+        self.save(state).next_multiple_of(self.page)
     }
 }
 
@@ -80,9 +89,9 @@ pub fn sound(rng: &mut Rng, shape: &Shape, chip: usize) -> State {
     if rng.below(12) == 0 {
         state.stop = Some(rng.pick(&[Stop::Ended, Stop::Divisor, Stop::CountFull]));
     }
-    let write = edge(rng, chip);
+    let write = shape.page * edge(rng, chip / shape.page);
     let erase = match rng.below(4) {
-        0 => edge(rng, chip - write),
+        0 => shape.page * edge(rng, (chip - write) / shape.page),
         _ => 0,
     };
     (state.write, state.erase) = (write as u32, erase as u32);
@@ -103,17 +112,25 @@ fn edge(rng: &mut Rng, most: usize) -> usize {
 
 /// Puts the state into the middle of a save, where the plan and the chip allow one. Gives whether they do.
 fn saving(rng: &mut Rng, shape: &Shape, chip: usize, state: &mut State) -> bool {
-    if shape.checkpoints.is_empty() || chip == 0 {
+    let pages = chip / shape.page;
+    if shape.checkpoints.is_empty() || pages == 0 {
         return false;
     }
     state.place = rng.pick(&shape.checkpoints);
     state.erase = 0;
-    let size = shape.save(state);
-    let least = size.saturating_sub(chip);
+    let size = shape.pages(state) / shape.page;
+    let least = size.saturating_sub(pages);
     let stored = least + edge(rng, size - 1 - least);
-    state.saving = Some(stored as u32);
-    state.write = edge(rng, chip - (size - stored)) as u32;
+    let write = edge(rng, pages - (size - stored));
+    state.saving = Some((shape.page * stored) as u32);
+    state.write = (shape.page * write) as u32;
     true
+}
+
+/// A sound state in the middle of a save, where the plan and the chip allow one.
+pub fn in_save(rng: &mut Rng, shape: &Shape, chip: usize) -> Option<State> {
+    let mut state = sound(rng, shape, chip);
+    saving(rng, shape, chip, &mut state).then_some(state)
 }
 
 /// Gives a state the fault, unless the plan or the chip leaves no room for it.
@@ -136,10 +153,22 @@ pub const FAULTS: [(&str, Fault); 13] = [
     ("a state of any bytes", any_bytes),
 ];
 
+/// The faults that only a page chip has, for each of which alone a run gives 10.
+pub const FAULTS_OF_PAGES: [(&str, Fault); 3] = [
+    ("a write position in a page", write_in_page),
+    ("bytes to erase up to in a page", erase_in_page),
+    ("bytes of a save stored up to in a page", stored_in_page),
+];
+
 /// A state with a fault, and the fault's name.
 pub fn faulty(rng: &mut Rng, shape: &Shape, chip: usize) -> (&'static str, Vec<u8>) {
+    let all = [&FAULTS[..], &FAULTS_OF_PAGES].concat();
+    let faults = match shape.page {
+        1 => &FAULTS[..],
+        _ => &all,
+    };
     loop {
-        let (name, fault) = rng.pick(&FAULTS);
+        let (name, fault) = rng.pick(faults);
         let mut state = sound(rng, shape, chip);
         if let Some(bytes) = fault(rng, shape, chip, &mut state) {
             return (name, bytes);
@@ -222,16 +251,19 @@ fn missing_mark(rng: &mut Rng, shape: &Shape, _: usize, state: &mut State) -> Op
     Some(state.to_bytes().into())
 }
 
-/// The sum is 1 or more above the chip's length, also where 32 bits do not hold it.
-fn past_end(rng: &mut Rng, _: &Shape, chip: usize, state: &mut State) -> Option<Vec<u8>> {
-    let end = chip as u32 + 1;
-    let write = rng.below(end as usize + 1) as u32;
+/// The sum is a page or more above the chip's length, also where 32 bits do not hold it.
+fn past_end(rng: &mut Rng, shape: &Shape, chip: usize, state: &mut State) -> Option<Vec<u8>> {
+    let page = shape.page as u32;
+    let pages = chip / shape.page + 1;
+    let end = page * pages as u32;
+    let write = page * rng.below(pages + 1) as u32;
+    let highest = 0_u32.wrapping_sub(page);
     (state.write, state.erase) = rng.pick(&[
         (end, 0),
         (write, end - write),
-        (u32::MAX, 1),
-        (1, u32::MAX),
-        (u32::MAX, u32::MAX),
+        (highest, page),
+        (page, highest),
+        (highest, highest),
         (0x1_0000 + end, 0),
     ]);
     state.saving = None;
@@ -240,7 +272,7 @@ fn past_end(rng: &mut Rng, _: &Shape, chip: usize, state: &mut State) -> Option<
 
 fn saving_elsewhere(rng: &mut Rng, shape: &Shape, _: usize, state: &mut State) -> Option<Vec<u8>> {
     state.place = rng.pick(&shape.commands);
-    state.saving = Some(rng.below(14) as u32);
+    state.saving = Some((rng.below(14) / shape.page * shape.page) as u32);
     state.erase = 0;
     let elsewhere = !shape.checkpoints.contains(&state.place);
     elsewhere.then(|| state.to_bytes().into())
@@ -253,8 +285,8 @@ fn saving_and_erasing(
     state: &mut State,
 ) -> Option<Vec<u8>> {
     let saves = saving(rng, shape, chip, state);
-    // The rest of the save is at least one byte, so there is one behind the write position.
-    state.erase = 1;
+    // The rest of the save is at least one page, so there is one behind the write position.
+    state.erase = shape.page as u32;
     saves.then(|| state.to_bytes().into())
 }
 
@@ -265,8 +297,9 @@ fn saving_all_stored(
     state: &mut State,
 ) -> Option<Vec<u8>> {
     let saves = saving(rng, shape, chip, state);
-    let size = shape.save(state) as u32;
-    state.saving = Some(rng.pick(&[size, size + 1, 0x1_0000, u32::MAX - 1]));
+    let (size, page) = (shape.pages(state) as u32, shape.page as u32);
+    let most = (u32::MAX - 1) / page * page;
+    state.saving = Some(rng.pick(&[size, size + page, 0x1_0000, most]));
     saves.then(|| state.to_bytes().into())
 }
 
@@ -277,12 +310,47 @@ fn saving_past_end(
     state: &mut State,
 ) -> Option<Vec<u8>> {
     let saves = saving(rng, shape, chip, state);
-    let rest = shape.save(state) - state.saving? as usize;
+    let rest = shape.pages(state) - state.saving? as usize;
     // The write position itself is still on the chip, or at its end.
-    state.write = (chip - rest + 1) as u32;
+    state.write = (chip / shape.page * shape.page - rest + shape.page) as u32;
     saves.then(|| state.to_bytes().into())
 }
 
 fn any_bytes(rng: &mut Rng, _: &Shape, _: usize, state: &mut State) -> Option<Vec<u8>> {
     Some(spoiled(&state.to_bytes(), rng))
+}
+
+/// How far a number stands from the page before it: mostly at an end of its own page.
+fn in_page(rng: &mut Rng, page: usize) -> usize {
+    match rng.below(3) {
+        0 => 1,
+        1 => page - 1,
+        _ => 1 + rng.below(page - 1),
+    }
+}
+
+fn write_in_page(rng: &mut Rng, shape: &Shape, chip: usize, state: &mut State) -> Option<Vec<u8>> {
+    let pages = (chip / shape.page).checked_sub(1)?;
+    state.write = (shape.page * edge(rng, pages) + in_page(rng, shape.page)) as u32;
+    (state.erase, state.saving) = (0, None);
+    Some(state.to_bytes().into())
+}
+
+fn erase_in_page(rng: &mut Rng, shape: &Shape, chip: usize, state: &mut State) -> Option<Vec<u8>> {
+    let pages = (chip / shape.page).checked_sub(1)?;
+    let before = edge(rng, pages);
+    let whole = edge(rng, pages - before);
+    state.write = (shape.page * before) as u32;
+    state.erase = (shape.page * whole + in_page(rng, shape.page)) as u32;
+    state.saving = None;
+    Some(state.to_bytes().into())
+}
+
+fn stored_in_page(rng: &mut Rng, shape: &Shape, chip: usize, state: &mut State) -> Option<Vec<u8>> {
+    let saves = saving(rng, shape, chip, state);
+    let stored = state.saving? + in_page(rng, shape.page) as u32;
+    state.saving = Some(stored);
+    // Else all bytes but the filling are stored, which is another fault.
+    let has_more = (stored as usize) < shape.save(state);
+    (saves && has_more).then(|| state.to_bytes().into())
 }

@@ -1,16 +1,17 @@
-//! Calls of the four C entries drawn from seeds, half of them hostile, answered by the library and by the reference: the
+//! Calls of the six C entries drawn from seeds, half of them hostile, answered by the library and by the reference: the
 //! same result, and the same in every byte of every buffer and in every number after the call. `PITSKELO_CALLS` sets how
 //! many calls of each entry there are.
 
 use std::env;
+use std::ops::Range;
 
 use claim::Met;
 use differential::call::{
     agree, answered, difference, Answer, Call, Entry, Library, Reference, SET_WORDS,
 };
 use differential::seeded::{seeded, Seeded};
-use differential::states::FAULTS;
-use reference::journal::MAX_CHIP;
+use differential::states::{FAULTS, FAULTS_OF_PAGES};
+use reference::journal::{ERASED, MAX_CHIP};
 use reference::machine::State;
 
 /// How many readings or outputs the library takes at a time.
@@ -48,12 +49,13 @@ const ENDS: [&str; 7] = [
 const EACH_REFUSAL: u64 = 10;
 
 /// The same for what else recoveries must meet.
-const OF_RECOVERIES: [(&str, u64); 13] = [
+const OF_RECOVERIES: [(&str, u64); 14] = [
     ("an altered plan", 50),
     ("too few words of DE and RO", 10),
     ("a state of another length", 10),
     ("a chip that is too long", 10),
     ("an altered chip", 50),
+    ("a chip of the other kind", 10),
     ("words with a rest", 400),
     ("more words than need be", 400),
     ("a null chip", 2),
@@ -65,10 +67,11 @@ const OF_RECOVERIES: [(&str, u64); 13] = [
 ];
 
 /// The same for what else runs must meet.
-const OF_RUNS: [(&str, u64); 26] = [
+const OF_RUNS: [(&str, u64); 27] = [
     ("an altered plan", 50),
     ("too few words of DE and RO", 10),
     ("a chip that is too long", 10),
+    ("chip and state of the other kind", 10),
     ("words with a rest", 400),
     ("readings with a rest", 400),
     ("outputs with a rest", 400),
@@ -82,7 +85,7 @@ const OF_RUNS: [(&str, u64); 26] = [
     ("output buffer full", 50),
     ("runs again with larger budgets", 100),
     ("runs that save at first", 50),
-    ("runs that save at last", 30),
+    ("runs that save at last", 10),
     ("runs that store over 100 bytes", 5),
     ("runs that erase", 20),
     ("runs of over 10,000 steps", 5),
@@ -92,6 +95,32 @@ const OF_RUNS: [(&str, u64); 26] = [
     ("readings taken to a stretch's end", 1),
     ("outputs given to a stretch's end", 1),
     ("a count full after a stretch", 1),
+];
+
+/// The same for what recoveries of page chips must meet beside this.
+const OF_PAGE_RECOVERIES: [(&str, u64); 4] = [
+    ("a chip that is no whole pages", 10),
+    ("filling with a wrong byte", 10),
+    ("recoveries behind filling", 50),
+    ("recoveries with a page torn in part", 50),
+];
+
+/// The same for runs on page chips.
+const OF_PAGE_RUNS: [(&str, u64); 4] = [
+    ("a chip that is no whole pages", 10),
+    ("a save that fits but for its filling", 10),
+    ("runs that end a save with filling", 10),
+    ("runs that erase pages in part", 5),
+];
+
+/// The same for chips of lengths at which a page chip's answer changes.
+const LENGTHS: [(&str, u64); 6] = [
+    ("chips of 15 bytes", 1),
+    ("chips of 16 bytes", 1),
+    ("chips of 17 bytes", 1),
+    ("chips of 65,520 bytes", 1),
+    ("chips of 65,536 bytes", 1),
+    ("chips of 65,537 bytes", 1),
 ];
 
 fn calls(of_the_gate: u64) -> u64 {
@@ -113,11 +142,11 @@ fn make_calls(entry: Entry, calls: u64, last_refusal: usize, floors: &[(&str, u6
         let (result, left) = agreed(seed, &call);
         met.count("calls");
         met.count(RESULTS[result as usize]);
-        count_faults(&mut met, seed, &faults, result);
+        count_faults(&mut met, entry, seed, &faults, result);
         match entry {
             Entry::Check | Entry::Analyse => {}
-            Entry::Recover => count_recovery(&mut met, &call, result, &left),
-            Entry::Run => count_run(&mut met, seed, &call, result, &left),
+            Entry::Recover | Entry::PageRecover => count_recovery(&mut met, &call, result, &left),
+            Entry::Run | Entry::PageRun => count_run(&mut met, seed, &call, result, &left),
         }
     }
     print!("{met}");
@@ -128,8 +157,8 @@ fn make_calls(entry: Entry, calls: u64, last_refusal: usize, floors: &[(&str, u6
     met.assert_floors_per("calls", floors);
 }
 
-/// Counts a call's only fault, which of a state must have been found. A call without a fault must be accepted.
-fn count_faults(met: &mut Met, seed: u64, faults: &[&'static str], result: u32) {
+/// Counts a call's only fault, which must have its refusal where it has just one. A call without a fault must be accepted.
+fn count_faults(met: &mut Met, entry: Entry, seed: u64, faults: &[&'static str], result: u32) {
     if faults.is_empty() {
         assert_eq!(result, 0, "seed {seed} has no fault");
         return;
@@ -137,11 +166,22 @@ fn count_faults(met: &mut Met, seed: u64, faults: &[&'static str], result: u32) 
     met.count("hostile calls");
     if let [fault] = *faults {
         met.count(fault);
-        // The last of them may leave a sound state.
-        let of_state = &FAULTS[..FAULTS.len() - 1];
-        if of_state.iter().any(|(name, _)| *name == fault) {
-            assert_eq!(result, 10, "seed {seed}: {fault}");
+        if let Some(refusal) = refusal_of(entry, fault) {
+            assert_eq!(result, refusal, "seed {seed}: {fault}");
         }
+    }
+}
+
+/// The refusal that a call gets which has this fault alone, where it is always the same.
+fn refusal_of(entry: Entry, fault: &str) -> Option<u32> {
+    // The last of the states' faults may leave a sound state.
+    let mut of_state = FAULTS[..FAULTS.len() - 1].iter().chain(&FAULTS_OF_PAGES);
+    match (fault, entry) {
+        ("a save that fits but for its filling", _) => Some(10),
+        // A run may find that the state does not fit the chip.
+        ("a chip that is no whole pages", Entry::PageRecover) => Some(11),
+        ("filling with a wrong byte", _) => Some(12),
+        _ => of_state.any(|(name, _)| *name == fault).then_some(10),
     }
 }
 
@@ -151,8 +191,15 @@ fn count_all(met: &mut Met, met_here: &[(&'static str, bool)]) {
     }
 }
 
-fn count_words(met: &mut Met, call: &Call) {
+fn count_lent(met: &mut Met, call: &Call) {
+    let length = call.chip.len();
     let named = [
+        ("chips of 15 bytes", length == 15),
+        ("chips of 16 bytes", length == 16),
+        ("chips of 17 bytes", length == 17),
+        ("chips of 65,520 bytes", length == MAX_CHIP - 16),
+        ("chips of 65,536 bytes", length == MAX_CHIP),
+        ("chips of 65,537 bytes", length == MAX_CHIP + 1),
         ("words with a rest", !call.sets.len().is_multiple_of(8)),
         ("more words than need be", call.sets.words() > SET_WORDS),
         ("a null chip", call.nulls && call.chip.is_empty()),
@@ -162,24 +209,35 @@ fn count_words(met: &mut Met, call: &Call) {
 }
 
 fn count_recovery(met: &mut Met, call: &Call, result: u32, left: &Call) {
-    count_words(met, call);
+    count_lent(met, call);
     if result != 0 {
         return;
     }
     let state = State::from_bytes(left.state.lent()).expect("recovery leaves a state");
+    let (saved, torn) = (state.write, state.write + state.erase);
     let named = [
+        ("recoveries behind filling", ends_with_ff(left, 0..saved)),
+        (
+            "recoveries with a page torn in part",
+            ends_with_ff(left, saved..torn),
+        ),
         ("recoveries of no save", state.write == 0),
         ("recoveries of saves", state.write > 0),
         ("recoveries with bytes to erase", state.erase > 0),
         ("recoveries with a last EXCLUDE", state.exclude > 0),
         ("chips over 3,000 bytes", left.chip.len() > 3_000),
-        ("chips of 65,536 bytes", left.chip.len() == MAX_CHIP),
     ];
     count_all(met, &named);
 }
 
+/// Whether there are bytes of the chip from here to there and the last is FF.
+fn ends_with_ff(call: &Call, range: Range<u32>) -> bool {
+    let bytes = &call.chip.lent()[range.start as usize..range.end as usize];
+    bytes.last() == Some(&ERASED)
+}
+
 fn count_run(met: &mut Met, seed: u64, call: &Call, result: u32, left: &Call) {
-    count_words(met, call);
+    count_lent(met, call);
     let named = [
         (
             "readings with a rest",
@@ -214,11 +272,21 @@ fn count_work(met: &mut Met, call: &Call, left: &Call) {
     let [before, after] = [call, left]
         .map(|call| State::from_bytes(call.state.lent()).expect("an accepted run's state is one"));
     let stored = after.write - before.write;
+    let (write, torn) = (before.write, before.write + before.erase);
+    let erases = after.erase < before.erase;
     let named = [
+        (
+            "runs that end a save with filling",
+            after.saving.is_none() && ends_with_ff(left, write..after.write),
+        ),
+        (
+            "runs that erase pages in part",
+            erases && ends_with_ff(call, write..torn),
+        ),
         ("runs that save at first", before.saving.is_some()),
         ("runs that save at last", after.saving.is_some()),
         ("runs that store over 100 bytes", stored > 100),
-        ("runs that erase", after.erase < before.erase),
+        ("runs that erase", erases),
         ("runs of over 10,000 steps", left.ran().steps > 10_000),
     ];
     count_all(met, &named);
@@ -262,6 +330,20 @@ fn runs() {
     make_calls(Entry::Run, calls(200_000), 11, &floors);
 }
 
+#[test]
+fn page_recoveries() {
+    let floors = [&OF_RECOVERIES[..], &OF_PAGE_RECOVERIES, &LENGTHS].concat();
+    make_calls(Entry::PageRecover, calls(200_000), 12, &floors);
+}
+
+#[test]
+fn page_runs() {
+    let mut floors = [&OF_RUNS[..], &OF_PAGE_RUNS, &LENGTHS].concat();
+    floors.extend(FAULTS.map(|(name, _)| (name, 2)));
+    floors.extend(FAULTS_OF_PAGES.map(|(name, _)| (name, 2)));
+    make_calls(Entry::PageRun, calls(200_000), 11, &floors);
+}
+
 /// Where an answer is made wrong: in the result, in a number, or in a byte of a buffer or around it.
 #[derive(Clone, Copy, Debug)]
 enum Spot {
@@ -303,7 +385,14 @@ impl Spot {
 /// The calls above fail on any wrong byte: in each spot of some answers a bit is altered, and the difference is found.
 #[test]
 fn a_wrong_bit_anywhere_is_found() {
-    for entry in [Entry::Check, Entry::Analyse, Entry::Recover, Entry::Run] {
+    for entry in [
+        Entry::Check,
+        Entry::Analyse,
+        Entry::Recover,
+        Entry::Run,
+        Entry::PageRecover,
+        Entry::PageRun,
+    ] {
         // Calls without a fault and hostile ones.
         for seed in 0..4 {
             let call = seeded(entry, seed).call;

@@ -1,6 +1,6 @@
 /*
- * Checks, analyses, recovers and runs the plan on standard input, then what is refused, and prints
- * what the calls give.
+ * Checks, analyses, recovers and runs the plan on standard input, on either kind of chip, then what
+ * is refused, and prints what the calls give.
  */
 
 /* First, so that the header is seen to need nothing before it. */
@@ -14,12 +14,23 @@ static uint32_t (*const check)(const uint8_t *, size_t,
                                uint32_t *, uint32_t *, uint32_t *) = pitskelo_check;
 static uint32_t (*const analyse)(const uint8_t *, size_t,
                                  uint8_t *, size_t, uint8_t *, size_t) = pitskelo_analyse;
-static uint32_t (*const recover)(const uint8_t *, size_t, const uint8_t *, size_t,
-                                 const uint8_t *, size_t, uint8_t *, size_t) = pitskelo_recover;
-static uint32_t (*const run)(const uint8_t *, size_t, const uint8_t *, size_t,
-                             uint8_t *, size_t, uint8_t *, size_t,
-                             const uint8_t *, size_t, uint8_t *, size_t, uint64_t,
-                             uint32_t *, uint64_t *, uint64_t *, uint64_t *) = pitskelo_run;
+
+/* A kind of chip: what stands before the names of its calls, and these. */
+struct kind {
+    const char *prefix;
+    uint32_t (*recover)(const uint8_t *, size_t, const uint8_t *, size_t,
+                        const uint8_t *, size_t, uint8_t *, size_t);
+    uint32_t (*run)(const uint8_t *, size_t, const uint8_t *, size_t,
+                    uint8_t *, size_t, uint8_t *, size_t,
+                    const uint8_t *, size_t, uint8_t *, size_t, uint64_t,
+                    uint32_t *, uint64_t *, uint64_t *, uint64_t *);
+};
+
+static const struct kind byte_chip = {"", pitskelo_recover, pitskelo_run};
+static const struct kind page_chip = {"page ", pitskelo_page_recover, pitskelo_page_run};
+
+/* The kind that is called. */
+static const struct kind *kind;
 
 /* What the calls of recover and run share. */
 static uint8_t plan[PITSKELO_PLAN_MAX], sets[PITSKELO_SETS_SIZE], state[PITSKELO_STATE_SIZE];
@@ -76,8 +87,8 @@ static void print_recover(const char *name, size_t sets_len, const uint8_t *chip
     size_t at;
 
     memset(state, 0xA5, sizeof state);
-    result = recover(plan, plan_len, sets, sets_len, chip, chip_len, state, state_len);
-    printf("recover %s: %lu", name, (unsigned long)result);
+    result = kind->recover(plan, plan_len, sets, sets_len, chip, chip_len, state, state_len);
+    printf("%srecover %s: %lu", kind->prefix, name, (unsigned long)result);
     if (!filled(state, sizeof state)) {
         printf(", %lu,", number_at(state));
         for (at = 1280; at < sizeof state; at += 4)
@@ -97,44 +108,47 @@ static void print_run(const char *name, uint8_t *chip, size_t chip_len, const ui
     size_t at;
 
     memset(outputs, 0xA5, sizeof outputs);
-    result = run(plan, plan_len, sets, sizeof sets, chip, chip_len, state, sizeof state,
-                 readings, readings_len, outputs_len > 0 ? outputs : NULL, outputs_len, budget,
-                 &ended, &steps, &taken, &given);
-    printf("run %s: %lu, %lu %lu %lu %lu,", name, (unsigned long)result, (unsigned long)ended,
-           (unsigned long)steps, (unsigned long)taken, (unsigned long)given);
+    result = kind->run(plan, plan_len, sets, sizeof sets, chip, chip_len, state, sizeof state,
+                       readings, readings_len, outputs_len > 0 ? outputs : NULL, outputs_len,
+                       budget, &ended, &steps, &taken, &given);
+    printf("%srun %s: %lu, %lu %lu %lu %lu,", kind->prefix, name, (unsigned long)result,
+           (unsigned long)ended, (unsigned long)steps, (unsigned long)taken, (unsigned long)given);
     for (at = 0; !filled(outputs + at, sizeof outputs - at); at += 4)
         printf(" %lu", number_at(outputs + at));
     printf("\n");
 }
 
-/* Runs a chip of 60 bytes full, and recovers from it, whole and cut. */
-static void recover_and_run(void)
+/* Fills a chip with three saves, of so many bytes and steps; recovers from it, whole and cut. */
+static void recover_and_run(size_t save_len, uint64_t save_steps, size_t cut)
 {
     static const uint8_t readings[] = {5, 0, 0, 0, 7, 0, 0, 0, 0xFE, 0xFF, 0xFF, 0xFF, 9};
-    uint8_t chip[60];
+    uint8_t chip[96];
+    size_t chip_len = 3 * save_len;
     size_t at;
 
     memset(chip, 0xFF, sizeof chip);
-    print_recover("erased", sizeof sets, chip, sizeof chip, sizeof state);
-    print_run("no room", chip, sizeof chip, readings, sizeof readings, 0, 1000);
-    print_run("some steps", chip, sizeof chip, readings + 4, sizeof readings - 4, 7, 24);
-    print_run("no readings", chip, sizeof chip, NULL, 0, 16, 1000);
-    print_run("the rest", chip, sizeof chip, readings + 4, sizeof readings - 4, 16, 1000);
-    print_recover("whole", sizeof sets, chip, sizeof chip, sizeof state);
-    for (at = 0; at < 20; at++)
+    print_recover("erased", sizeof sets, chip, chip_len, sizeof state);
+    print_run("no room", chip, chip_len, readings, sizeof readings, 0, 1000);
+    print_run("some steps", chip, chip_len, readings + 4, sizeof readings - 4, 7, save_steps + 4);
+    print_run("no readings", chip, chip_len, NULL, 0, 16, 1000);
+    print_run("the rest", chip, chip_len, readings + 4, sizeof readings - 4, 16, 1000);
+    print_recover("whole", sizeof sets, chip, chip_len, sizeof state);
+    for (at = 0; at < save_len; at++)
         printf(at == 0 ? "%02X" : " %02X", chip[at]);
     printf("\n");
-    memset(chip + 33, 0xFF, sizeof chip - 33);
-    print_recover("cut", sizeof sets, chip, sizeof chip, sizeof state);
+    memset(chip + cut, 0xFF, chip_len - cut);
+    print_recover("cut", sizeof sets, chip, chip_len, sizeof state);
 }
 
 /* What is refused leaves everything as it was. */
 static void refuse(void)
 {
     static uint8_t long_chip[PITSKELO_CHIP_MAX + 1];
-    uint8_t damaged[] = {0x00, 0xFF};
+    uint8_t damaged[PITSKELO_PAGE_SIZE];
 
     memset(long_chip, 0xFF, sizeof long_chip);
+    memset(damaged, 0xFF, sizeof damaged);
+    damaged[0] = 0x00;
     print_recover("short sets", sizeof sets - 1, NULL, 0, sizeof state);
     print_recover("short state", sizeof sets, NULL, 0, sizeof state - 1);
     print_recover("long chip", sizeof sets, long_chip, sizeof long_chip, sizeof state);
@@ -144,6 +158,23 @@ static void refuse(void)
     print_run("long chip", long_chip, sizeof long_chip, NULL, 0, 16, 1);
     state[PITSKELO_STATE_WRITE] = 1;
     print_run("past the end", NULL, 0, NULL, 0, 16, 1);
+}
+
+/* What a page chip alone is refused for. */
+static void refuse_pages(void)
+{
+    static const uint8_t mark[] = {0xA2, 17, 0, 15, 0, 1, 0, 0, 0, 1, 0, 0, 0, 0x5A};
+    uint8_t chip[PITSKELO_PAGE_SIZE + 1];
+
+    memset(chip, 0xFF, sizeof chip);
+    memcpy(chip, mark, sizeof mark);
+    print_recover("part of a page", sizeof sets, chip, sizeof chip, sizeof state);
+    print_recover("one save", sizeof sets, chip, PITSKELO_PAGE_SIZE, sizeof state);
+    print_run("part of a page", chip, sizeof chip, NULL, 0, 16, 1);
+    state[PITSKELO_STATE_WRITE] = 1;
+    print_run("within a page", chip, PITSKELO_PAGE_SIZE, NULL, 0, 16, 1);
+    chip[sizeof mark] = 0;
+    print_recover("filled with 00", sizeof sets, chip, PITSKELO_PAGE_SIZE, sizeof state);
 }
 
 int main(void)
@@ -157,7 +188,12 @@ int main(void)
     print_analyse("unknown", unknown, sizeof unknown, PITSKELO_DEAD_SIZE, PITSKELO_SETS_SIZE);
     print_analyse("null", plan, plan_len, 0, 0);
     print_analyse("input", plan, plan_len, PITSKELO_DEAD_SIZE, PITSKELO_SETS_SIZE);
-    recover_and_run();
+    kind = &byte_chip;
+    recover_and_run(20, 20, 33);
     refuse();
+    kind = &page_chip;
+    recover_and_run(32, 2, 48);
+    refuse();
+    refuse_pages();
     return 0;
 }

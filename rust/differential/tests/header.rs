@@ -20,6 +20,52 @@ fn must_succeed(what: &str, output: &Output) {
     );
 }
 
+/// What the program prints, on either kind of chip.
+const PRINTED: &str = "check input: 0, 3 7 1\n\
+     check unknown: 2, 1001 1002 1003\n\
+     check null: 1, 1001 1002 1003\n\
+     analyse unknown: 2, A5 A5 A5 A5 A5 A5 A5 A5, 5A 5A 5A\n\
+     analyse null: 9, A5 A5 A5 A5 A5 A5 A5 A5, 5A 5A 5A\n\
+     analyse input: 0, 07 06 04 06 06 06 06 A5, 06 04 5A\n\
+     recover erased: 0, 0, 1 0 0 0 0 0 0 0\n\
+     run no room: 0, 6 3 1 0,\n\
+     run some steps: 0, 4 24 0 1, 5\n\
+     run no readings: 0, 5 0 0 0,\n\
+     run the rest: 0, 5 52 2 2, 12 10\n\
+     recover whole: 0, 10, 17 15 3 3 0 60 0 0\n\
+     A1 00 05 00 00 00 A2 11 00 0F 00 01 00 00 00 01 00 00 00 5A\n\
+     recover cut: 0, 5, 17 15 1 1 0 20 13 0\n\
+     recover short sets: 9\n\
+     recover short state: 10\n\
+     recover long chip: 11\n\
+     recover damaged: 12\n\
+     run no state: 10, 1001 1002 1003 1004,\n\
+     recover null: 0, 0, 1 0 0 0 0 0 0 0\n\
+     run long chip: 11, 1001 1002 1003 1004,\n\
+     run past the end: 10, 1001 1002 1003 1004,\n\
+     page recover erased: 0, 0, 1 0 0 0 0 0 0 0\n\
+     page run no room: 0, 6 3 1 0,\n\
+     page run some steps: 0, 4 6 0 1, 5\n\
+     page run no readings: 0, 5 0 0 0,\n\
+     page run the rest: 0, 5 16 2 2, 12 10\n\
+     page recover whole: 0, 10, 17 15 3 3 0 96 0 0\n\
+     A1 00 05 00 00 00 A2 11 00 0F 00 01 00 00 00 01 00 00 00 5A \
+     FF FF FF FF FF FF FF FF FF FF FF FF\n\
+     page recover cut: 0, 5, 17 15 1 1 0 32 16 0\n\
+     page recover short sets: 9\n\
+     page recover short state: 10\n\
+     page recover long chip: 11\n\
+     page recover damaged: 12\n\
+     page run no state: 10, 1001 1002 1003 1004,\n\
+     page recover null: 0, 0, 1 0 0 0 0 0 0 0\n\
+     page run long chip: 11, 1001 1002 1003 1004,\n\
+     page run past the end: 10, 1001 1002 1003 1004,\n\
+     page recover part of a page: 11\n\
+     page recover one save: 0, 0, 17 15 1 1 0 16 0 0\n\
+     page run part of a page: 11, 1001 1002 1003 1004,\n\
+     page run within a page: 10, 1001 1002 1003 1004,\n\
+     page recover filled with 00: 12\n";
+
 #[test]
 fn a_c_program_runs_the_small_plan() {
     let root = Path::new(CRATE).join("../..");
@@ -50,29 +96,5 @@ fn a_c_program_runs_the_small_plan() {
         .output()
         .expect("the compiled program can be run");
     must_succeed("the C program", &run);
-    assert_eq!(
-        text(&run.stdout),
-        "check input: 0, 3 7 1\n\
-         check unknown: 2, 1001 1002 1003\n\
-         check null: 1, 1001 1002 1003\n\
-         analyse unknown: 2, A5 A5 A5 A5 A5 A5 A5 A5, 5A 5A 5A\n\
-         analyse null: 9, A5 A5 A5 A5 A5 A5 A5 A5, 5A 5A 5A\n\
-         analyse input: 0, 07 06 04 06 06 06 06 A5, 06 04 5A\n\
-         recover erased: 0, 0, 1 0 0 0 0 0 0 0\n\
-         run no room: 0, 6 3 1 0,\n\
-         run some steps: 0, 4 24 0 1, 5\n\
-         run no readings: 0, 5 0 0 0,\n\
-         run the rest: 0, 5 52 2 2, 12 10\n\
-         recover whole: 0, 10, 17 15 3 3 0 60 0 0\n\
-         A1 00 05 00 00 00 A2 11 00 0F 00 01 00 00 00 01 00 00 00 5A\n\
-         recover cut: 0, 5, 17 15 1 1 0 20 13 0\n\
-         recover short sets: 9\n\
-         recover short state: 10\n\
-         recover long chip: 11\n\
-         recover damaged: 12\n\
-         run no state: 10, 1001 1002 1003 1004,\n\
-         recover null: 0, 0, 1 0 0 0 0 0 0 0\n\
-         run long chip: 11, 1001 1002 1003 1004,\n\
-         run past the end: 10, 1001 1002 1003 1004,\n"
-    );
+    assert_eq!(text(&run.stdout), PRINTED);
 }

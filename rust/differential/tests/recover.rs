@@ -7,7 +7,7 @@ use differential::examples::SMALL;
 use differential::journals::{self, altered, filled, plans};
 use differential::plans::refused_examples;
 use differential::rng::Rng;
-use reference::journal::{read, ERASED, MARK, MARK_END, MAX_CHIP, RECORD};
+use reference::journal::{read, BYTE_CHIP, ERASED, MARK, MARK_END, MAX_CHIP, RECORD};
 use reference::layout::STATE_BYTES;
 use reference::machine::{Mark, State};
 
@@ -207,7 +207,7 @@ fn marks_by_the_last_exclude_alone() {
 fn full_chips() {
     let mut rng = Rng::new(0x5EC0_0000_0000_0002);
     for plan in plans() {
-        let chip = filled(&mut rng, &plan, MAX_CHIP);
+        let chip = filled(&mut rng, &plan, MAX_CHIP, BYTE_CHIP);
         let call = Call::recover(&plan, &[u64::MAX; SET_WORDS], &chip, &[0; STATE_BYTES]);
         let state = recovered(&call);
         assert!(state.write > 60_000, "{}", state.write);
@@ -231,7 +231,7 @@ fn on_chip(call: &Call, chip: &[u8]) -> Call {
 fn saves_torn_at_every_length() {
     let mut rng = Rng::new(0xC41B_0000_0000_0005);
     for call in of_plans() {
-        let saves = filled(&mut rng, call.plan.lent(), 4_000);
+        let saves = filled(&mut rng, call.plan.lent(), 4_000, BYTE_CHIP);
         for bytes in 0..=saves.len() {
             let mut chip = saves[..bytes].to_vec();
             chip.resize(saves.len(), ERASED);
@@ -247,7 +247,7 @@ fn chips_as_the_engine_leaves_them() {
     let calls = of_plans();
     for _ in 0..50_000 {
         let call = &calls[rng.below(calls.len())];
-        let chip = journals::stored(&mut rng, call.plan.lent());
+        let chip = journals::stored(&mut rng, call.plan.lent(), BYTE_CHIP);
         recovered(&on_chip(call, &chip));
     }
 }
@@ -260,7 +260,7 @@ fn altered_chips() {
     let count = 50_000;
     for _ in 0..count {
         let call = &calls[rng.below(calls.len())];
-        let chip = journals::stored(&mut rng, call.plan.lent());
+        let chip = journals::stored(&mut rng, call.plan.lent(), BYTE_CHIP);
         let call = on_chip(call, &altered(&mut rng, chip));
         damaged += usize::from(agreed(&Library, &call).0 == 12);
     }
@@ -290,8 +290,8 @@ fn every_beginning_of_three_bytes() {
     for call in of_plans() {
         let plan = call.plan.lent();
         let before = loop {
-            let chip = journals::stored(&mut rng, plan);
-            let held = read(plan, &chip).expect("the engine leaves a sound chip");
+            let chip = journals::stored(&mut rng, plan, BYTE_CHIP);
+            let held = read(plan, &chip, BYTE_CHIP).expect("the engine leaves a sound chip");
             if !held.saves.is_empty() {
                 break chip[..held.end].to_vec();
             }

@@ -1,5 +1,6 @@
-//! The chip (document 01, 'Marks, steps and the chip'): the saves that stand on it, read as recovery
-//! reads them.
+//! The chip (document 01, 'Marks, steps and the chip'; document 02, Q-4): the saves that stand on it,
+//! read as recovery reads them. A chip has a page length: a step stores or erases one page, and a save
+//! fills whole pages.
 //!
 //! One automaton takes a save byte by byte. After each byte it knows whether the bytes so far begin
 //! some sound save, so the whole saves are those that it takes to their end, and a remainder is torn
@@ -10,6 +11,9 @@ use crate::program::Instruction;
 use crate::refusal::{CHIP_DAMAGED, CHIP_LENGTH};
 
 pub const MAX_CHIP: usize = 65_536;
+/// The page length of a byte chip, and that of a page chip.
+pub const BYTE_CHIP: usize = 1;
+pub const PAGE_CHIP: usize = 16;
 pub const ERASED: u8 = 0xFF;
 pub const RECORD: u8 = 0xA1;
 pub const MARK: u8 = 0xA2;
@@ -46,9 +50,17 @@ impl Save {
         bytes.push(MARK_END);
         bytes
     }
+
+    /// The pages that hold it: "behind its MARK the page is filled with FF".
+    pub fn pages(&self, page: usize) -> Vec<u8> {
+        let mut bytes = self.bytes();
+        bytes.resize(bytes.len().next_multiple_of(page), ERASED);
+        bytes
+    }
 }
 
-/// What an accepted chip holds: its whole saves, where they end, and how many torn bytes follow.
+/// What an accepted chip holds: its whole saves, where their pages end, and how many bytes the torn
+/// pages behind them have.
 #[derive(Clone, Debug, PartialEq, Eq)]
 pub struct Chip {
     pub saves: Vec<Save>,
@@ -75,11 +87,9 @@ impl Chip {
     }
 }
 
-/// Reads a chip for an accepted plan: 11, 12, or what it holds.
-pub fn read(plan: &[u8], chip: &[u8]) -> Result<Chip, u32> {
-    if chip.len() > MAX_CHIP {
-        return Err(CHIP_LENGTH);
-    }
+/// Reads a chip of a page length for an accepted plan: 11, 12, or what it holds.
+pub fn read(plan: &[u8], chip: &[u8], page: usize) -> Result<Chip, u32> {
+    check_length(chip.len(), page)?;
     let places = Places::of(plan)?;
     let mut found = Chip {
         saves: Vec::new(),
@@ -87,18 +97,34 @@ pub fn read(plan: &[u8], chip: &[u8]) -> Result<Chip, u32> {
         torn: 0,
     };
     while let Some(save) = whole_save(&places, found.last(), &chip[found.end..]) {
-        found.end += save.bytes().len();
+        let mark_end = found.end + save.bytes().len();
+        // The chip ends with a page, so the filling lies on it.
+        found.end = mark_end.next_multiple_of(page);
+        if !without_trailing_ff(&chip[mark_end..found.end]).is_empty() {
+            return Err(CHIP_DAMAGED);
+        }
         found.saves.push(save);
     }
-    let rest = &chip[found.end..];
-    found.torn = rest
-        .iter()
-        .rposition(|&byte| byte != ERASED)
-        .map_or(0, |last| last + 1);
-    match begins_save(&places, found.last(), &rest[..found.torn]) {
+    let remainder = without_trailing_ff(&chip[found.end..]);
+    // "a page with any torn byte counts whole among the bytes to erase"
+    found.torn = remainder.len().next_multiple_of(page);
+    match begins_save(&places, found.last(), remainder) {
         true => Ok(found),
         false => Err(CHIP_DAMAGED),
     }
+}
+
+/// The refusal 11.
+pub(crate) fn check_length(bytes: usize, page: usize) -> Result<(), u32> {
+    match bytes <= MAX_CHIP && bytes.is_multiple_of(page) {
+        true => Ok(()),
+        false => Err(CHIP_LENGTH),
+    }
+}
+
+fn without_trailing_ff(bytes: &[u8]) -> &[u8] {
+    let last = bytes.iter().rposition(|&byte| byte != ERASED);
+    &bytes[..last.map_or(0, |last| last + 1)]
 }
 
 /// What of a plan decides whether a save is sound.
@@ -285,15 +311,19 @@ mod tests {
         Save { records, mark }.bytes()
     }
 
-    /// The end of the whole saves and the number of torn bytes, or the refusal.
+    /// The end of the whole saves and the number of torn bytes of a byte chip, or the refusal.
     fn ends(plan: &[u8], chip: &[u8]) -> Result<(usize, usize), u32> {
-        read(plan, chip).map(|chip| (chip.end, chip.torn))
+        ends_of(plan, chip, BYTE_CHIP)
+    }
+
+    fn ends_of(plan: &[u8], chip: &[u8], page: usize) -> Result<(usize, usize), u32> {
+        read(plan, chip, page).map(|chip| (chip.end, chip.torn))
     }
 
     #[test]
     fn an_erased_chip_of_any_length_holds_nothing() {
         for length in [0, 1, 20, MAX_CHIP] {
-            let chip = read(SMALL, &erased(&[], length)).unwrap();
+            let chip = read(SMALL, &erased(&[], length), BYTE_CHIP).unwrap();
             assert_eq!((chip.end, chip.torn, chip.saves.len()), (0, 0, 0));
             assert_eq!((chip.last().place, chip.value(0)), (1, 0));
         }
@@ -307,7 +337,7 @@ mod tests {
             let torn = torn.map_or(0, |last| last + 1);
             assert_eq!(ends(SMALL, &erased(&FIRST[..stored], 20)), Ok((0, torn)));
         }
-        let chip = read(SMALL, FIRST).unwrap();
+        let chip = read(SMALL, FIRST, BYTE_CHIP).unwrap();
         assert_eq!((chip.end, chip.torn, chip.value(0)), (20, 0, 5));
         assert_eq!(chip.saves[0].bytes(), FIRST);
     }
@@ -317,7 +347,7 @@ mod tests {
         let second = [
             0xA1, 0x00, 0x0C, 0x00, 0x00, 0x00, 0xA2, 0x11, 0x00, 0x0F, 0x00, 0x02, 0x00,
         ];
-        let chip = read(SMALL, &erased(&joined(&[FIRST, &second]), 60)).unwrap();
+        let chip = read(SMALL, &erased(&joined(&[FIRST, &second]), 60), BYTE_CHIP).unwrap();
         assert_eq!((chip.end, chip.torn, chip.value(0)), (20, 13, 5));
         assert_eq!((chip.last().readings, chip.last().outputs), (1, 1));
     }
@@ -330,7 +360,7 @@ mod tests {
             joined(&[&record(2, 7), &mark(17, 0, 1, 1)]),
             joined(&[&record(0, 9), &record(1, 9)]),
         ];
-        let chip = read(SMALL, &erased(&saves.concat(), 100)).unwrap();
+        let chip = read(SMALL, &erased(&saves.concat(), 100), BYTE_CHIP).unwrap();
         assert_eq!((chip.end, chip.torn), (46, 12));
         assert_eq!([chip.value(0), chip.value(1), chip.value(2)], [5, 0, 7]);
         assert_eq!(chip.last().exclude, 0);
@@ -421,5 +451,104 @@ mod tests {
         let value = [RECORD, 0x00, ERASED, 0x07, ERASED, ERASED];
         assert_eq!(ends(SMALL, &erased(&value, 20)), Ok((0, 4)));
         assert_eq!(ends(SMALL, &erased(&[RECORD, 0x00], 20)), Ok((0, 2)));
+    }
+
+    /// The small plan's first save on a page chip: 20 bytes and 12 of FF.
+    fn first_pages() -> Vec<u8> {
+        erased(FIRST, 32)
+    }
+
+    #[test]
+    fn the_pages_of_a_save_end_with_ff() {
+        let held = read(SMALL, &first_pages(), PAGE_CHIP).unwrap();
+        assert_eq!((held.end, held.torn, held.value(0)), (32, 0, 5));
+        assert_eq!(held.saves[0].pages(PAGE_CHIP), first_pages());
+        assert_eq!(held.saves[0].pages(BYTE_CHIP), FIRST);
+    }
+
+    #[test]
+    fn a_page_chip_is_a_number_of_whole_pages() {
+        for (length, answer) in [
+            (0, Ok((0, 0))),
+            (15, Err(CHIP_LENGTH)),
+            (16, Ok((0, 0))),
+            (17, Err(CHIP_LENGTH)),
+            (31, Err(CHIP_LENGTH)),
+            (MAX_CHIP - 16, Ok((0, 0))),
+            (MAX_CHIP - 1, Err(CHIP_LENGTH)),
+            (MAX_CHIP, Ok((0, 0))),
+            (MAX_CHIP + 16, Err(CHIP_LENGTH)),
+        ] {
+            let chip = vec![ERASED; length];
+            assert_eq!(ends_of(SMALL, &chip, PAGE_CHIP), answer, "{length} bytes");
+        }
+        // The length is tried before the content.
+        assert_eq!(ends_of(SMALL, &[0x00; 17], PAGE_CHIP), Err(CHIP_LENGTH));
+        assert_eq!(ends_of(SMALL, &[0x00; 16], PAGE_CHIP), Err(CHIP_DAMAGED));
+    }
+
+    #[test]
+    fn the_filling_is_ff_behind_every_save() {
+        let one = erased(&first_pages(), 64);
+        let two = joined(&[&first_pages(), &first_pages()]);
+        for (chip, second) in [(one, 0..0), (two, 52..64)] {
+            assert!(ends_of(SMALL, &chip, PAGE_CHIP).is_ok());
+            for at in (20..32).chain(second) {
+                for byte in [0x00, RECORD, MARK, 0xFE] {
+                    let mut chip = chip.clone();
+                    chip[at] = byte;
+                    let answer = ends_of(SMALL, &chip, PAGE_CHIP);
+                    assert_eq!(answer, Err(CHIP_DAMAGED), "byte {at}");
+                }
+            }
+        }
+    }
+
+    #[test]
+    fn the_next_save_begins_with_a_page() {
+        let next = mark(17, 15, 1, 1);
+        let chip = erased(&joined(&[&first_pages(), &next]), 64);
+        assert_eq!(ends_of(SMALL, &chip, PAGE_CHIP), Ok((48, 0)));
+        // As a byte chip has them, the second stands in the filling of the first.
+        let chip = erased(&joined(&[FIRST, &next]), 64);
+        assert_eq!(ends_of(SMALL, &chip, PAGE_CHIP), Err(CHIP_DAMAGED));
+    }
+
+    #[test]
+    fn a_mark_that_ends_a_page_has_no_filling() {
+        let record = |cell| [RECORD, cell, 9, 0, 0, 0];
+        // 14 bytes and three records: 32.
+        let save = joined(&[&record(0), &record(1), &record(2), &mark(17, 0, 0, 0)]);
+        let chip = joined(&[&save, &first_pages()]);
+        assert_eq!(ends_of(SMALL, &chip, PAGE_CHIP), Ok((64, 0)));
+        let torn = erased(&joined(&[&save, &[RECORD]]), 48);
+        assert_eq!(ends_of(SMALL, &torn, PAGE_CHIP), Ok((32, 16)));
+    }
+
+    #[test]
+    fn torn_pages_count_whole_wherever_the_remainder_ends() {
+        for stored in 1..20 {
+            let torn = if stored <= 16 { 16 } else { 32 };
+            let chip = erased(&FIRST[..stored], 48);
+            let behind = joined(&[&first_pages(), &chip]);
+            assert_eq!(ends_of(SMALL, &chip, PAGE_CHIP), Ok((0, torn)));
+            assert_eq!(ends_of(SMALL, &behind, PAGE_CHIP), Ok((32, torn)));
+        }
+    }
+
+    #[test]
+    fn pages_of_any_length() {
+        for page in 1..=16 {
+            let save = FIRST.len().next_multiple_of(page);
+            let chip = erased(FIRST, 2 * save);
+            assert_eq!(
+                ends_of(SMALL, &chip, page),
+                Ok((save, 0)),
+                "pages of {page}"
+            );
+            let torn = joined(&[&chip[..save], &FIRST[..7], &vec![ERASED; save - 7]]);
+            let answer = Ok((save, 7_usize.next_multiple_of(page)));
+            assert_eq!(ends_of(SMALL, &torn, page), answer, "pages of {page}");
+        }
     }
 }

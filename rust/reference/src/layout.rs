@@ -1,8 +1,7 @@
 //! The state as bytes (docs/STATE.md), and recovery and run on a state so lent: only there can a state have another
 //! length, or hold a mark or a kind of stop that is none, which gives 10.
 
-use crate::machine::{run, Machine, Mark, Ran, State, Stop, MAX_CELLS};
-use crate::recovery::recover;
+use crate::machine::{Machine, Mark, Ran, State, Stop, MAX_CELLS};
 use crate::refusal::STATE_NOT_SOUND;
 
 pub const STATE_BYTES: usize = 1312;
@@ -102,42 +101,38 @@ impl State {
     }
 }
 
-/// Recovery on a state of bytes, of which it tests only the length: 10 where that is another.
-pub fn recover_bytes(plan: &[u8], sets: &[u64], chip: &[u8], state: &mut [u8]) -> Result<(), u32> {
-    if state.len() != STATE_BYTES {
-        return Err(not_a_state(plan, sets));
+impl Machine<'_> {
+    /// Recovery on a state of bytes, of which it tests only the length: 10 where that is another.
+    pub fn recover_bytes(&self, chip: &[u8], state: &mut [u8]) -> Result<(), u32> {
+        if state.len() != STATE_BYTES {
+            return Err(STATE_NOT_SOUND);
+        }
+        let mut recovered = State::first();
+        self.recover(chip, &mut recovered)?;
+        state.copy_from_slice(&recovered.to_bytes());
+        Ok(())
     }
-    let mut recovered = State::first();
-    recover(plan, sets, chip, &mut recovered)?;
-    state.copy_from_slice(&recovered.to_bytes());
-    Ok(())
-}
 
-/// A run on a state of bytes.
-pub fn run_bytes(
-    plan: &[u8],
-    sets: &[u64],
-    chip: &mut [u8],
-    bytes: &mut [u8],
-    readings: &[i32],
-    room: usize,
-    budget: u64,
-) -> Result<Ran, u32> {
-    let mut state = State::from_bytes(bytes).ok_or_else(|| not_a_state(plan, sets))?;
-    let ran = run(plan, sets, chip, &mut state, readings, room, budget)?;
-    bytes.copy_from_slice(&state.to_bytes());
-    Ok(ran)
-}
-
-/// The refusal where the bytes are no state: 1 to 9 come before 10.
-fn not_a_state(plan: &[u8], sets: &[u64]) -> u32 {
-    Machine::new(plan, sets).err().unwrap_or(STATE_NOT_SOUND)
+    /// A run on a state of bytes.
+    pub fn run_bytes(
+        &self,
+        chip: &mut [u8],
+        bytes: &mut [u8],
+        readings: &[i32],
+        room: usize,
+        budget: u64,
+    ) -> Result<Ran, u32> {
+        let mut state = State::from_bytes(bytes).ok_or(STATE_NOT_SOUND)?;
+        let ran = self.run(chip, &mut state, readings, room, budget)?;
+        bytes.copy_from_slice(&state.to_bytes());
+        Ok(ran)
+    }
 }
 
 #[cfg(test)]
 mod tests {
     use super::*;
-    use crate::journal::{ERASED, MAX_CHIP};
+    use crate::journal::{BYTE_CHIP, ERASED, MAX_CHIP, PAGE_CHIP};
     use crate::machine::SET_WORDS;
 
     const END: &[u8] = &[0x00, 0x01];
@@ -190,38 +185,50 @@ mod tests {
         }
     }
 
+    /// A recovery of the plan that has END alone.
+    fn recover(words: &[u64], chip: &[u8], page: usize, state: &mut [u8]) -> Result<(), u32> {
+        Machine::new(END, words, page)?.recover_bytes(chip, state)
+    }
+
+    /// The steps of its run with budget 1.
+    fn run(words: &[u64], chip: &mut [u8], page: usize, state: &mut [u8]) -> Result<u64, u32> {
+        let machine = Machine::new(END, words, page)?;
+        let ran = machine.run_bytes(chip, state, &[], 0, 1)?;
+        Ok(ran.steps)
+    }
+
     #[test]
     fn ten_between_nine_and_eleven() {
         let words = [0; SET_WORDS];
-        let mut long = vec![0x00; MAX_CHIP + 1];
-        let mut short = [0xFF; STATE_BYTES - 1];
-        assert_eq!(recover_bytes(&[], &words, &long, &mut short), Err(1));
-        assert_eq!(recover_bytes(END, &words[1..], &long, &mut short), Err(9));
-        assert_eq!(recover_bytes(END, &words, &long, &mut short), Err(10));
-        let mut no_mark = [0xFF; STATE_BYTES];
-        assert_eq!(recover_bytes(END, &words, &long, &mut no_mark), Err(11));
-        let mut ran = |words: &[u64], state: &mut [u8]| {
-            run_bytes(END, words, &mut long, state, &[], 0, 1).map(|ran| ran.steps)
-        };
-        assert_eq!(ran(&words[1..], &mut no_mark), Err(9));
-        assert_eq!(ran(&words, &mut no_mark), Err(10));
-        assert_eq!(ran(&words, &mut State::first().to_bytes()), Err(11));
-        assert_eq!(
-            (short, no_mark),
-            ([0xFF; STATE_BYTES - 1], [0xFF; STATE_BYTES])
-        );
+        for (page, length) in [(BYTE_CHIP, MAX_CHIP + 1), (PAGE_CHIP, 20)] {
+            let mut chip = vec![0x00; length];
+            let mut short = [0xFF; STATE_BYTES - 1];
+            assert_eq!(recover(&words[1..], &chip, page, &mut short), Err(9));
+            assert_eq!(recover(&words, &chip, page, &mut short), Err(10));
+            let mut no_mark = [0xFF; STATE_BYTES];
+            assert_eq!(recover(&words, &chip, page, &mut no_mark), Err(11));
+            assert_eq!(run(&words[1..], &mut chip, page, &mut no_mark), Err(9));
+            assert_eq!(run(&words, &mut chip, page, &mut no_mark), Err(10));
+            let mut first = State::first().to_bytes();
+            assert_eq!(run(&words, &mut chip, page, &mut first), Err(11));
+            assert_eq!(short, [0xFF; STATE_BYTES - 1]);
+            assert_eq!(no_mark, [0xFF; STATE_BYTES]);
+            assert_eq!(first, State::first().to_bytes());
+        }
     }
 
     #[test]
     fn recovery_overwrites_any_bytes_and_run_goes_on_from_them() {
         let words = [0; SET_WORDS];
-        let mut chip = [ERASED; 4];
-        let mut state = [0xFF; STATE_BYTES];
-        assert_eq!(recover_bytes(END, &words, &chip, &mut state), Ok(()));
-        assert_eq!(state, State::first().to_bytes());
-        let ran = run_bytes(END, &words, &mut chip, &mut state, &[], 0, 1).unwrap();
-        let mut stopped = State::first();
-        stopped.stop = Some(Stop::Ended);
-        assert_eq!((ran.steps, state), (1, stopped.to_bytes()));
+        let mut chip = [ERASED; 16];
+        for page in [BYTE_CHIP, PAGE_CHIP] {
+            let mut state = [0xFF; STATE_BYTES];
+            assert_eq!(recover(&words, &chip, page, &mut state), Ok(()));
+            assert_eq!(state, State::first().to_bytes());
+            assert_eq!(run(&words, &mut chip, page, &mut state), Ok(1));
+            let mut stopped = State::first();
+            stopped.stop = Some(Stop::Ended);
+            assert_eq!(state, stopped.to_bytes());
+        }
     }
 }

@@ -1,6 +1,6 @@
-//! A second version of the plan engine. It is written from document 01 alone, never from the
+//! A second version of the plan engine. It is written from documents 01 and 02 alone, never from the
 //! verified library, so that an error would have to be made twice to go unseen. It is meant to be
-//! read beside the document: plain before fast.
+//! read beside the documents: plain before fast.
 
 pub mod analysis;
 pub mod check;
@@ -9,11 +9,11 @@ pub mod layout;
 pub mod listing;
 pub mod machine;
 pub mod program;
-pub mod recovery;
+mod recovery;
 pub mod refusal;
 pub mod uncut;
 
 pub use analysis::{analyse, Analysis, Set};
 pub use check::{check, Checked};
 pub use listing::listing;
-pub use recovery::recover;
+pub use machine::Machine;

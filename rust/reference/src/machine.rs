@@ -1,12 +1,13 @@
-//! The machine (document 01, 'Plans' and 'Marks, steps and the chip'): its state, a step and a run. It works in
-//! place on the state and on the chip, a step at a time, as the document's sentences go.
+//! The machine (document 01, 'Plans' and 'Marks, steps and the chip'; document 02, Q-4): its state, a step and a run.
+//! It works in place on the state and on the chip, a step at a time, as the documents' sentences go. The page length is
+//! open: with pages of one byte it is document 01's machine.
 
 use std::collections::BTreeMap;
 
 use crate::check::{check, instructions};
-use crate::journal::{Mark as Commit, Save, ERASED, MAX_CHIP};
+use crate::journal::{check_length, Mark as Commit, Save, ERASED};
 use crate::program::{Instruction, Table, LENGTHS, MAX_EXCLUDES};
-use crate::refusal::{BUFFER_TOO_SHORT, CHIP_LENGTH, STATE_NOT_SOUND};
+use crate::refusal::{BUFFER_TOO_SHORT, STATE_NOT_SOUND};
 
 pub const MAX_CELLS: usize = 256;
 pub const SET_WORDS: usize = 8 * MAX_EXCLUDES;
@@ -94,50 +95,18 @@ pub struct Ran {
     pub given: Vec<i32>,
 }
 
-/// An accepted plan and the words lent with it.
-pub(crate) struct Machine<'a> {
+/// An accepted plan and the words lent with it, for chips of one page length.
+pub struct Machine<'a> {
+    pub(crate) plan: &'a [u8],
     pub(crate) cells: usize,
+    pub(crate) page: usize,
     commands: BTreeMap<u32, Instruction>,
     sets: &'a [u64],
 }
 
-/// Runs a plan on a state and a chip, with places for `room` outputs; or gives the refusal, 1 to 11, and alters
-/// nothing.
-pub fn run(
-    plan: &[u8],
-    sets: &[u64],
-    chip: &mut [u8],
-    state: &mut State,
-    readings: &[i32],
-    room: usize,
-    budget: u64,
-) -> Result<Ran, u32> {
-    let machine = Machine::new(plan, sets)?;
-    if !machine.is_sound(state, chip.len()) {
-        return Err(STATE_NOT_SOUND);
-    }
-    if chip.len() > MAX_CHIP {
-        return Err(CHIP_LENGTH);
-    }
-    let mut ran = Ran {
-        ended: Ended::Spent,
-        steps: 0,
-        taken: 0,
-        given: Vec::new(),
-    };
-    loop {
-        if let Some(ended) = machine.exit(state, &ran, readings, room, budget) {
-            ran.ended = ended;
-            return Ok(ran);
-        }
-        machine.step(state, chip, &mut ran, readings);
-        ran.steps += 1;
-    }
-}
-
 impl<'a> Machine<'a> {
-    /// The refusals 1 to 9.
-    pub(crate) fn new(plan: &[u8], sets: &'a [u64]) -> Result<Machine<'a>, u32> {
+    /// The machine for a plan and its words, or the refusal, 1 to 9.
+    pub fn new(plan: &'a [u8], sets: &'a [u64], page: usize) -> Result<Machine<'a>, u32> {
         let cells = check(plan)?.cells as usize;
         if sets.len() < SET_WORDS {
             return Err(BUFFER_TOO_SHORT);
@@ -145,10 +114,42 @@ impl<'a> Machine<'a> {
         let commands = instructions(plan, cells)?;
         let commands = commands.into_iter().map(|(at, c)| (at as u32, c)).collect();
         Ok(Machine {
+            plan,
             cells,
+            page,
             commands,
             sets,
         })
+    }
+
+    /// Runs the plan on a state and a chip, with places for `room` outputs; or gives the refusal, 10 or 11, and alters
+    /// nothing.
+    pub fn run(
+        &self,
+        chip: &mut [u8],
+        state: &mut State,
+        readings: &[i32],
+        room: usize,
+        budget: u64,
+    ) -> Result<Ran, u32> {
+        if !self.is_sound(state, chip.len()) {
+            return Err(STATE_NOT_SOUND);
+        }
+        check_length(chip.len(), self.page)?;
+        let mut ran = Ran {
+            ended: Ended::Spent,
+            steps: 0,
+            taken: 0,
+            given: Vec::new(),
+        };
+        loop {
+            if let Some(ended) = self.exit(state, &ran, readings, room, budget) {
+                ran.ended = ended;
+                return Ok(ran);
+            }
+            self.step(state, chip, &mut ran, readings);
+            ran.steps += 1;
+        }
     }
 
     /// "A state is sound if .."; sums do not wrap.
@@ -157,6 +158,9 @@ impl<'a> Machine<'a> {
             .all(|cell| state.cells[cell] == 0 && state.marks[cell] == Mark::Include);
         let is_exclude = self.commands.get(&state.exclude) == Some(&Instruction::Exclude);
         let fits = state.write as usize + state.erase as usize <= chip;
+        let in_pages = [state.write, state.erase, state.saving.unwrap_or(0)]
+            .iter()
+            .all(|bytes| bytes.is_multiple_of(self.page as u32));
         let at_checkpoint = self.commands.get(&state.place) == Some(&Instruction::Checkpoint);
         let saving = state.saving.is_none_or(|stored| {
             at_checkpoint && state.erase == 0 && self.rest_fits(state, stored as usize, chip)
@@ -165,12 +169,14 @@ impl<'a> Machine<'a> {
             && (state.exclude == 0 || is_exclude)
             && missing_clear
             && fits
+            && in_pages
             && saving
     }
 
-    /// "has stored fewer bytes than its save has, and the remaining bytes fit"; the place is a CHECKPOINT.
+    /// "has stored fewer bytes than its save has, and the remaining bytes fit", the filling counted; the place is a
+    /// CHECKPOINT.
     fn rest_fits(&self, state: &State, stored: usize, chip: usize) -> bool {
-        let size = self.save(state).bytes().len();
+        let size = self.save(state).pages(self.page).len();
         stored < size && state.write as usize + (size - stored) <= chip
     }
 
@@ -207,8 +213,8 @@ impl<'a> Machine<'a> {
 
     fn step(&self, state: &mut State, chip: &mut [u8], ran: &mut Ran, readings: &[i32]) {
         if state.erase > 0 {
-            state.erase -= 1;
-            chip[(state.write + state.erase) as usize] = ERASED;
+            state.erase -= self.page as u32;
+            self.page_at(chip, state.write + state.erase).fill(ERASED);
         } else if let Some(stored) = state.saving {
             self.store(state, chip, stored);
         } else {
@@ -231,13 +237,20 @@ impl<'a> Machine<'a> {
         }
     }
 
-    /// The next byte of the save; "With the last byte, Pending becomes Kept and the plan goes on."
+    /// The page of the chip at this address.
+    fn page_at<'c>(&self, chip: &'c mut [u8], address: u32) -> &'c mut [u8] {
+        &mut chip[address as usize..][..self.page]
+    }
+
+    /// The next page of the save; "With the last byte, Pending becomes Kept and the plan goes on."
     fn store(&self, state: &mut State, chip: &mut [u8], stored: u32) {
-        let bytes = self.save(state).bytes();
-        chip[state.write as usize] = bytes[stored as usize];
-        state.write += 1;
-        state.saving = Some(stored + 1);
-        if stored as usize + 1 == bytes.len() {
+        let pages = self.save(state).pages(self.page);
+        let next = &pages[stored as usize..][..self.page];
+        self.page_at(chip, state.write).copy_from_slice(next);
+        state.write += self.page as u32;
+        let stored = stored + self.page as u32;
+        state.saving = Some(stored);
+        if stored as usize == pages.len() {
             for mark in state
                 .marks
                 .iter_mut()
@@ -299,7 +312,7 @@ impl<'a> Machine<'a> {
                 state.exclude = state.place;
             }
             Instruction::Checkpoint => {
-                if state.write as usize + self.save(state).bytes().len() <= chip {
+                if state.write as usize + self.save(state).pages(self.page).len() <= chip {
                     return state.saving = Some(0);
                 }
             }

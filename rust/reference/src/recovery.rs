@@ -1,42 +1,43 @@
 //! Recovery (document 01, 'Marks, steps and the chip'): the state that a chip's whole saves give. It stores nothing on
-//! the chip; the run that follows erases the torn bytes.
+//! the chip; the run that follows erases the torn pages.
 
 use crate::journal::read;
 use crate::machine::{is_in, Machine, Mark, State};
 
-/// Overwrites the state with what the chip holds; or gives the refusal, 1 to 9, 11 or 12, and alters nothing. The state
-/// is no bytes here, so it has no length that could give 10.
-pub fn recover(plan: &[u8], sets: &[u64], chip: &[u8], state: &mut State) -> Result<(), u32> {
-    let machine = Machine::new(plan, sets)?;
-    let held = read(plan, chip)?;
-    let last = held.last();
-    let mut recovered = State {
-        place: last.place.into(),
-        exclude: last.exclude.into(),
-        readings: last.readings,
-        outputs: last.outputs,
-        write: held.end as u32,
-        erase: held.torn as u32,
-        ..State::first()
-    };
-    for cell in 0..machine.cells {
-        recovered.cells[cell] = held.value(cell as u8);
-        recovered.marks[cell] = mark(&machine, recovered.exclude, cell);
+impl Machine<'_> {
+    /// Overwrites the state with what the chip holds; or gives the refusal, 11 or 12, and alters nothing. The state is
+    /// no bytes here, so it has no length that could give 10.
+    pub fn recover(&self, chip: &[u8], state: &mut State) -> Result<(), u32> {
+        let held = read(self.plan, chip, self.page)?;
+        let last = held.last();
+        let mut recovered = State {
+            place: last.place.into(),
+            exclude: last.exclude.into(),
+            readings: last.readings,
+            outputs: last.outputs,
+            write: held.end as u32,
+            erase: held.torn as u32,
+            ..State::first()
+        };
+        for cell in 0..self.cells {
+            recovered.cells[cell] = held.value(cell as u8);
+            recovered.marks[cell] = self.recovered_mark(recovered.exclude, cell);
+        }
+        *state = recovered;
+        Ok(())
     }
-    *state = recovered;
-    Ok(())
-}
 
-/// "Dead for DE, else Kept for RO, else Include, by the last EXCLUDE, all Include if 0".
-fn mark(machine: &Machine, exclude: u32, cell: usize) -> Mark {
-    if exclude == 0 {
-        return Mark::Include;
-    }
-    let (de, ro) = machine.sets_of(exclude);
-    match (is_in(de, cell), is_in(ro, cell)) {
-        (true, _) => Mark::Dead,
-        (false, true) => Mark::Kept,
-        (false, false) => Mark::Include,
+    /// "Dead for DE, else Kept for RO, else Include, by the last EXCLUDE, all Include if 0".
+    fn recovered_mark(&self, exclude: u32, cell: usize) -> Mark {
+        if exclude == 0 {
+            return Mark::Include;
+        }
+        let (de, ro) = self.sets_of(exclude);
+        match (is_in(de, cell), is_in(ro, cell)) {
+            (true, _) => Mark::Dead,
+            (false, true) => Mark::Kept,
+            (false, false) => Mark::Include,
+        }
     }
 }
 
@@ -44,7 +45,7 @@ fn mark(machine: &Machine, exclude: u32, cell: usize) -> Mark {
 mod tests {
     use super::*;
     use crate::analyse;
-    use crate::journal::{ERASED, MAX_CHIP};
+    use crate::journal::{BYTE_CHIP, ERASED, MAX_CHIP, PAGE_CHIP};
     use crate::machine::{Stop, SET_WORDS};
 
     const SMALL: &[u8] = include_bytes!("../../../examples/small.plan");
@@ -77,10 +78,15 @@ mod tests {
         }
     }
 
-    /// What recovery leaves with the plan's own sets, or its refusal.
+    /// What recovery of a byte chip leaves with the plan's own sets, or its refusal.
     fn recovered(plan: &[u8], chip: &[u8]) -> Result<State, u32> {
+        recovered_from(plan, chip, BYTE_CHIP)
+    }
+
+    fn recovered_from(plan: &[u8], chip: &[u8], page: usize) -> Result<State, u32> {
         let mut state = spoiled();
-        recover(plan, &sets(plan), chip, &mut state).map(|()| state)
+        Machine::new(plan, &sets(plan), page)?.recover(chip, &mut state)?;
+        Ok(state)
     }
 
     /// The small plan's saves up to so many bytes, then FF up to 60.
@@ -154,7 +160,8 @@ mod tests {
         let save = |exclude: u8| [0xA2, 0x05, 0, exclude, 0, 0, 0, 0, 0, 0, 0, 0, 0, 0x5A];
         let marks = |chip: &[u8]| {
             let mut state = spoiled();
-            recover(&plan, &words, chip, &mut state).unwrap();
+            let machine = Machine::new(&plan, &words, BYTE_CHIP).unwrap();
+            machine.recover(chip, &mut state).unwrap();
             state.marks[..6].to_vec()
         };
         use Mark::*;
@@ -172,7 +179,8 @@ mod tests {
         let long = vec![0x00; MAX_CHIP + 1];
         let refused = |plan: &[u8], words: &[u64], chip: &[u8]| {
             let mut state = spoiled();
-            let answer = recover(plan, words, chip, &mut state);
+            let machine = Machine::new(plan, words, BYTE_CHIP);
+            let answer = machine.and_then(|machine| machine.recover(chip, &mut state));
             assert_eq!(state, spoiled());
             answer.expect_err("the call is refused")
         };
@@ -181,5 +189,37 @@ mod tests {
         assert_eq!(refused(SMALL, &words[..511], &long), 9);
         assert_eq!(refused(SMALL, &words, &long), 11);
         assert_eq!(refused(SMALL, &words, &long[..MAX_CHIP]), 12);
+    }
+
+    /// The small plan's first save on a page chip, as many of its pages as are given, then FF up to 64.
+    fn pages(stored: usize) -> Vec<u8> {
+        let mut chip = SAVES[..20.min(16 * stored)].to_vec();
+        chip.resize(64, ERASED);
+        chip
+    }
+
+    #[test]
+    fn cut_between_the_pages_of_the_first_save_the_plan_starts_again() {
+        let start = State {
+            erase: 16,
+            ..State::first()
+        };
+        assert_eq!(recovered_from(SMALL, &pages(1), PAGE_CHIP), Ok(start));
+    }
+
+    #[test]
+    fn a_save_counts_from_its_last_page_on() {
+        let state = recovered_from(SMALL, &pages(2), PAGE_CHIP).unwrap();
+        assert_eq!((state.write, state.erase), (32, 0));
+        assert_eq!((state.place, state.cells[0]), (17, 5));
+        assert_eq!([state.readings, state.outputs], [1, 1]);
+    }
+
+    #[test]
+    fn filling_that_is_not_ff_is_damage() {
+        let mut chip = pages(2);
+        chip[31] = 0xFE;
+        assert_eq!(recovered_from(SMALL, &chip, PAGE_CHIP), Err(12));
+        assert_eq!(recovered_from(SMALL, &chip[..31], PAGE_CHIP), Err(11));
     }
 }

@@ -20,7 +20,7 @@ pub const BAD_TARGET: u32 = 8;
 pub const BUFFER_TOO_SHORT: u32 = 9;
 /// The state is not sound.
 pub const STATE_NOT_SOUND: u32 = 10;
-/// The chip is over 65,536 bytes.
+/// The chip is over 65,536 bytes, or is not a number of whole pages.
 pub const CHIP_LENGTH: u32 = 11;
 /// The chip is damaged.
 pub const CHIP_DAMAGED: u32 = 12;

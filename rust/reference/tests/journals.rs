@@ -5,7 +5,7 @@ use std::fmt::Write;
 use std::fs;
 use std::path::Path;
 
-use reference::journal::{read, ERASED, MAX_CHIP};
+use reference::journal::{read, BYTE_CHIP, ERASED, MAX_CHIP};
 
 const SMALL: &[u8] = &[
     0x02, 0x02, 0x00, 0x00, 0x00, 0x00, 0x00, 0x07, 0x01, 0x04, 0x00, 0x00, 0x01, 0x08, 0x00, 0x0D,
@@ -31,7 +31,7 @@ const COUNTED: [u8; 19] = [
 /// A row: its name and what the chip holds, as `vectors` writes it.
 fn row(name: &str, plan: &[u8], chip: &[u8]) -> String {
     let mut line = format!("{name}:");
-    match read(plan, chip) {
+    match read(plan, chip, BYTE_CHIP) {
         Err(number) => write!(line, " {number}").unwrap(),
         Ok(chip) => {
             let last = chip.last();

@@ -4,9 +4,9 @@
 use std::fs;
 use std::path::Path;
 
-use reference::journal::ERASED;
-use reference::machine::{run, State, Stop, SET_WORDS};
-use reference::{analyse, recover};
+use reference::analyse;
+use reference::journal::{BYTE_CHIP, ERASED};
+use reference::machine::{Machine, State, Stop, SET_WORDS};
 
 const SMALL: &[u8] = include_bytes!("../../../examples/small.plan");
 const READINGS: [i32; 3] = [5, 7, -2];
@@ -35,12 +35,13 @@ fn power_up(chip: &mut [u8], budget: u64) -> String {
     let mut sets = analyse(SMALL).unwrap().set_words();
     sets.resize(SET_WORDS, 0);
     let mut state = State::first();
-    recover(SMALL, &sets, chip, &mut state).unwrap();
+    let machine = Machine::new(SMALL, &sets, BYTE_CHIP).unwrap();
+    machine.recover(chip, &mut state).unwrap();
     let mut text = line("recover", "0", &state);
     let readings = &READINGS[state.readings as usize..];
     let mut outputs = [0; 3];
     for (name, budget) in [("step", 1), ("run", budget)] {
-        let ran = run(SMALL, &sets, chip, &mut state, readings, 3, budget).unwrap();
+        let ran = machine.run(chip, &mut state, readings, 3, budget).unwrap();
         let given = ran.given.len();
         outputs[..given].copy_from_slice(&ran.given);
         let answer = format!("{} {} {} {given}", ran.ended.number(), ran.steps, ran.taken);

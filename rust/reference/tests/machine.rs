@@ -3,8 +3,8 @@
 mod common;
 
 use reference::analyse;
-use reference::journal::{read, ERASED};
-use reference::machine::{run, Ended, Mark, Ran, State, Stop, SET_WORDS};
+use reference::journal::{read, BYTE_CHIP, ERASED, PAGE_CHIP};
+use reference::machine::{Ended, Machine, Mark, Ran, State, Stop, SET_WORDS};
 
 use common::plan;
 
@@ -17,10 +17,11 @@ fn sets(plan: &[u8]) -> Vec<u64> {
     words
 }
 
-/// A host with one plan, its sets, a chip and a state.
+/// A host with one plan, its sets, a chip of one kind and a state.
 struct Host {
     plan: Vec<u8>,
     sets: Vec<u64>,
+    page: usize,
     chip: Vec<u8>,
     state: State,
 }
@@ -30,21 +31,23 @@ impl Host {
         Host {
             plan: plan.to_vec(),
             sets: sets(plan),
+            page: BYTE_CHIP,
             chip: vec![ERASED; chip],
             state: State::first(),
         }
     }
 
+    /// The same with a page chip.
+    fn with_pages(plan: &[u8], chip: usize) -> Host {
+        Host {
+            page: PAGE_CHIP,
+            ..Host::new(plan, chip)
+        }
+    }
+
     fn run(&mut self, readings: &[i32], room: usize, budget: u64) -> Result<Ran, u32> {
-        run(
-            &self.plan,
-            &self.sets,
-            &mut self.chip,
-            &mut self.state,
-            readings,
-            room,
-            budget,
-        )
+        let machine = Machine::new(&self.plan, &self.sets, self.page)?;
+        machine.run(&mut self.chip, &mut self.state, readings, room, budget)
     }
 }
 
@@ -92,7 +95,7 @@ fn cut_after_33_bytes_cell_0_is_5_and_both_counts_are_1() {
         steps += 1;
     }
     assert!(steps > 33);
-    let chip = read(SMALL, &host.chip).unwrap();
+    let chip = read(SMALL, &host.chip, BYTE_CHIP).unwrap();
     assert_eq!((chip.end, chip.torn, chip.value(0)), (20, 13, 5));
     assert_eq!((chip.last().readings, chip.last().outputs), (1, 1));
 }
@@ -320,5 +323,109 @@ fn a_run_in_many_calls_is_the_run_in_one() {
         }
         assert_eq!(given, whole.given);
         assert_eq!((many.state, many.chip), (one.state, one.chip));
+    }
+}
+
+/// The small plan's first save on a page chip: 20 bytes and 12 of FF.
+const FIRST_PAGES: [u8; 32] = [
+    0xA1, 0x00, 0x05, 0x00, 0x00, 0x00, 0xA2, 0x11, 0x00, 0x0F, 0x00, 0x01, 0x00, 0x00, 0x00, 0x01,
+    0x00, 0x00, 0x00, 0x5A, 0xFF, 0xFF, 0xFF, 0xFF, 0xFF, 0xFF, 0xFF, 0xFF, 0xFF, 0xFF, 0xFF, 0xFF,
+];
+
+#[test]
+fn two_pages_hold_the_first_save_and_one_none() {
+    for (length, chip) in [
+        (0, vec![]),
+        (16, vec![ERASED; 16]),
+        (32, FIRST_PAGES.to_vec()),
+        (48, [&FIRST_PAGES[..], &[ERASED; 16]].concat()),
+    ] {
+        let mut host = Host::with_pages(SMALL, length);
+        let ran = host.run(&[5, 7], 10, 1000).unwrap();
+        assert_eq!((ran.ended, ran.given), (Ended::NoReading, vec![5, 12]));
+        assert_eq!(host.chip, chip, "{length} bytes");
+    }
+    for length in [15, 17, 20, 31, 33] {
+        let mut host = Host::with_pages(SMALL, length);
+        assert_eq!(host.run(&[5], 10, 1000), Err(11), "{length} bytes");
+    }
+}
+
+#[test]
+fn a_step_stores_a_page() {
+    let mut host = Host::with_pages(SMALL, 64);
+    // SET, READ, ADD, EMIT, EXCLUDE, and the CHECKPOINT that begins to save.
+    host.run(&[5], 10, 6).unwrap();
+    assert_eq!((host.state.write, host.state.saving), (0, Some(0)));
+    host.run(&[], 10, 1).unwrap();
+    assert_eq!((host.state.write, host.state.saving), (16, Some(16)));
+    assert_eq!(host.chip[..16], FIRST_PAGES[..16]);
+    assert_eq!(host.chip[16..], [ERASED; 48]);
+    host.run(&[], 10, 1).unwrap();
+    assert_eq!((host.state.write, host.state.saving), (32, None));
+    assert_eq!(host.state.place, 17);
+    assert_eq!(host.chip[..32], FIRST_PAGES);
+    assert_eq!(host.chip[32..], [ERASED; 32]);
+}
+
+#[test]
+fn a_step_erases_a_page_the_highest_first() {
+    let mut host = Host::with_pages(SMALL, 64);
+    host.chip.fill(0x00);
+    (host.state.write, host.state.erase) = (16, 32);
+    for (erase, erased) in [(16, 32..48), (0, 16..48)] {
+        assert_eq!(host.run(&[], 0, 1).unwrap().steps, 1);
+        assert_eq!((host.state.write, host.state.erase), (16, erase));
+        let mut chip = [0x00; 64];
+        chip[erased].fill(ERASED);
+        assert_eq!(host.chip, chip);
+    }
+}
+
+#[test]
+fn a_state_counts_in_pages() {
+    let fields: [fn(&mut State, u32); 3] = [
+        |s, bytes| s.write = bytes,
+        |s, bytes| s.erase = bytes,
+        |s, bytes| (s.place, s.saving) = (16, Some(bytes)),
+    ];
+    // The save before the first EXCLUDE has three records: 32 bytes.
+    for alter in fields {
+        for bytes in 0..32 {
+            let mut host = Host::with_pages(SMALL, 64);
+            alter(&mut host.state, bytes);
+            let answer = host.run(&[], 0, 1).map(|ran| ran.steps);
+            let is_whole = bytes % 16 == 0;
+            assert_eq!(answer, if is_whole { Ok(1) } else { Err(10) }, "{bytes}");
+        }
+    }
+}
+
+#[test]
+fn the_rest_of_a_save_fits_with_its_filling() {
+    // Of the save's cells one is Dead: 26 bytes, so 32 with the filling.
+    for (write, stored, chip, sound) in [
+        (0, 0, 32, true),
+        (16, 0, 32, false),
+        (16, 16, 32, true),
+        (32, 16, 32, false),
+        (16, 0, 48, true),
+        (16, 32, 64, false),
+        // A chip that is no whole pages: 11 where the state is sound for its length.
+        (16, 16, 33, true),
+        (16, 16, 31, false),
+        (0, 0, 26, false),
+    ] {
+        let mut host = Host::with_pages(SMALL, chip);
+        host.state.marks[1] = Mark::Dead;
+        (host.state.place, host.state.write) = (16, write);
+        host.state.saving = Some(stored);
+        let answer = host.run(&[], 0, 0).err();
+        let expected = match (sound, chip % 16) {
+            (false, _) => Some(10),
+            (true, 0) => None,
+            (true, _) => Some(11),
+        };
+        assert_eq!(answer, expected, "{write} {stored} {chip}");
     }
 }

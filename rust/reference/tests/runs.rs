@@ -8,8 +8,8 @@ use std::fs;
 use std::path::Path;
 
 use reference::analyse;
-use reference::journal::{read, ERASED};
-use reference::machine::{run, Ran, State, SET_WORDS};
+use reference::journal::{read, BYTE_CHIP, ERASED};
+use reference::machine::{Machine, Ran, State, SET_WORDS};
 
 use common::plan;
 
@@ -53,15 +53,9 @@ impl Row<'_> {
         sets[0] = 6;
         sets[4] = 4;
         let mut chip = vec![ERASED; self.chip];
-        let ran = run(
-            self.plan,
-            &sets,
-            &mut chip,
-            &mut self.state,
-            self.readings,
-            self.outputs.len(),
-            self.budget,
-        );
+        let (state, room) = (&mut self.state, self.outputs.len());
+        let ran = Machine::new(self.plan, &sets, BYTE_CHIP)
+            .and_then(|machine| machine.run(&mut chip, state, self.readings, room, self.budget));
         let mut text = format!("{name}:") + &answer(ran, &mut self.outputs);
         if chip.len() <= 64 {
             text += &list("chip", chip);
@@ -164,16 +158,10 @@ fn program(name: &str, text: &str, readings: &[i32]) -> String {
     sets.resize(SET_WORDS, 0);
     let mut chip = vec![ERASED; 8000];
     let mut outputs = [0; 25];
-    let ran = run(
-        &plan,
-        &sets,
-        &mut chip,
-        &mut State::first(),
-        readings,
-        outputs.len(),
-        1_000_000,
-    );
-    let held = read(&plan, &chip).expect("the engine leaves a sound chip");
+    let machine = Machine::new(&plan, &sets, BYTE_CHIP).unwrap();
+    let (state, room) = (&mut State::first(), outputs.len());
+    let ran = machine.run(&mut chip, state, readings, room, 1_000_000);
+    let held = read(&plan, &chip, BYTE_CHIP).expect("the engine leaves a sound chip");
     let all = format!("saves of {} cells", usize::from(plan[0]) + 1);
     let sizes = held.saves.iter().map(|save| save.records.len());
     format!("{name} run:") + &answer(ran, &mut outputs) + &list(&all, sizes) + "\n"

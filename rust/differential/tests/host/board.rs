@@ -7,7 +7,7 @@ use std::process::{Child, Command, Output, Stdio};
 use std::thread::sleep;
 use std::time::Duration;
 
-use reference::journal::{self, Chip, ERASED};
+use reference::journal::{self, Chip, ERASED, PAGE_CHIP};
 
 const SIGKILL: i32 = 9;
 
@@ -16,6 +16,8 @@ pub struct Board {
     folder: PathBuf,
     plan: Vec<u8>,
     chip_len: usize,
+    /// The chip's page length, by which its kind is known.
+    pub page: usize,
 }
 
 /// When the host is killed.
@@ -26,7 +28,7 @@ pub enum Cut {
     After(Duration),
     /// From outside, as soon as so many bytes of the chip are seen to differ from what they were at its start.
     Changed(usize),
-    /// By itself, before the chip byte or flush of this number (a host of `building::cut_host`).
+    /// By itself, before the chip byte, page or flush of this number (a host of `building::cut_host`).
     Before(usize),
 }
 
@@ -52,12 +54,14 @@ impl Board {
         plan: &[u8],
         readings: &[i32],
         chip_len: usize,
+        page: usize,
     ) -> Board {
         let board = Board {
             host: host.to_path_buf(),
             folder: folder.to_path_buf(),
             plan: plan.to_vec(),
             chip_len,
+            page,
         };
         board.write("plan", plan);
         board.set_readings(readings);
@@ -84,13 +88,13 @@ impl Board {
 
     /// What the chip holds, as the reference reads it, or its refusal.
     pub fn contents(&self) -> Result<Chip, u32> {
-        journal::read(&self.plan, &self.chip())
+        journal::read(&self.plan, &self.chip(), self.page)
     }
 
-    /// Starts the host once, with a pause of so many microseconds after each chip byte.
+    /// Starts the host once, with a pause of so many microseconds for each chip byte: a page takes as long as its bytes.
     pub fn start(&self, pause: u32, cut: Cut) -> Life {
         let mut command = self.command(&self.host, &[]);
-        command.arg(pause.to_string());
+        command.arg((pause * self.page as u32).to_string());
         if let Cut::Before(event) = cut {
             command.env("PITSKELO_CUT", event.to_string());
         }
@@ -132,6 +136,9 @@ impl Board {
     fn command(&self, program: &Path, first: &[&str]) -> Command {
         let mut command = Command::new(program);
         command.args(first);
+        if self.page == PAGE_CHIP {
+            command.arg("-p");
+        }
         command.args(["plan", "chip", "readings"]);
         command.current_dir(&self.folder);
         command.stdin(Stdio::null());

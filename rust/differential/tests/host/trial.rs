@@ -155,7 +155,7 @@ pub fn killed_at_random(
     panic!("no end after {MOST_KILLS} kills");
 }
 
-/// Trials with every cut of a run, each followed by every cut from the next start's first erased byte to a
+/// Trials with every cut of a run, each followed by every cut from the next start's first erased byte, or page, to a
 /// little behind the last.
 pub fn cut_everywhere(board: &Board, expected: &[i32]) -> Result<Counts, String> {
     let mut counts = Counts::default();
@@ -167,7 +167,8 @@ pub fn cut_everywhere(board: &Board, expected: &[i32]) -> Result<Counts, String>
         counts += trial.counts;
         trial.counts = Counts::default();
         let chip = board.chip();
-        for second in 1..=trial.contents()?.torn + 3 {
+        let torn_pages = trial.contents()?.torn / board.page;
+        for second in 1..=torn_pages + 3 {
             board.set_chip(&chip);
             counts += cut_twice(trial.clone(), second)?;
         }
