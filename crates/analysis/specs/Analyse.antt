@@ -9,6 +9,8 @@ use lib.ListN.{length, getD}
 use lib.Dec.{ltb}
 use Rattle.cellset.specs.Bits.{member}
 use Rattle.instruction.specs.Bytes.{cellsOf}
+use Rattle.instruction.specs.Table.{mustDef}
+use Rattle.instruction.specs.declared.Instruction.{Instruction}
 use Rattle.program.specs.Starts.{starts, excludes}
 use Rattle.program.specs.Check.{Answer, checkOf}
 use Rattle.program.specs.Grounds.{Allowed, Counts, CallGround}
@@ -16,7 +18,7 @@ use Rattle.program.specs.Places.{isExclude, excludeNumber}
 use Rattle.program.specs.declared.Checked.{Checked}
 use Rattle.program.specs.declared.Checked.the-variants as checked
 use Rattle.graph.specs.Tables.{countOf, startOf}
-use Rattle.analysis.specs.Paths.{Live, Dead, DE, RO, LiveSave, Written}
+use Rattle.analysis.specs.Paths.{Live, Dead, DEBy, RO, LiveSaveBy, Written}
 use Rattle.analysis.specs.declared.Analysed.{Analysed}
 use Rattle.analysis.specs.declared.Analysed.the-variants.{Sets, Refused}
 
@@ -46,14 +48,17 @@ pub record DeadSets (p d₀ d : List ℕ) : Type 0 where
   pub live : (i c : ℕ) → i < countOf p → c < cellsOf p → member d (4 * i) c ≡ 0 → Live p c (startOf p i)
   pub rest : (k : ℕ) → 4 * countOf p ≤ k → getD d k 0 ≡ getD d₀ k 0
 
--- "and DE then RO for each EXCLUDE, eight words": that of the EXCLUDE at e, by its number in order
-pub record ExcludeSets (p s₀ s : List ℕ) : Type 0 where
+-- "and DE then RO for each EXCLUDE, eight words": that of the EXCLUDE at e, by its number in order. DE goes by what a command must write, RO does not
+pub record ExcludeSetsBy (must : Instruction → ℕ → ℕ) (p s₀ s : List ℕ) : Type 0 where
   pub size : length s ≡ length s₀
-  pub de : (e c : ℕ) → isExclude p e ≡ true → c < 256 → member s (8 * excludeNumber p e) c ≡ 1 → DE p e c
-  pub no-de : (e c : ℕ) → isExclude p e ≡ true → c < cellsOf p → member s (8 * excludeNumber p e) c ≡ 0 → LiveSave p e c
+  pub de : (e c : ℕ) → isExclude p e ≡ true → c < 256 → member s (8 * excludeNumber p e) c ≡ 1 → DEBy must p e c
+  pub no-de : (e c : ℕ) → isExclude p e ≡ true → c < cellsOf p → member s (8 * excludeNumber p e) c ≡ 0 → LiveSaveBy must p e c
   pub ro : (e c : ℕ) → isExclude p e ≡ true → c < 256 → member s (8 * excludeNumber p e + 4) c ≡ 1 → RO p e c
   pub no-ro : (e c : ℕ) → isExclude p e ≡ true → c < cellsOf p → member s (8 * excludeNumber p e + 4) c ≡ 0 → Written p e c
   pub rest : (k : ℕ) → 8 * excludes p (starts p) ≤ k → getD s k 0 ≡ getD s₀ k 0
+
+abbrev pub ExcludeSets : List ℕ → List ℕ → List ℕ → Type 0
+ExcludeSets = ExcludeSetsBy mustDef
 
 -- the grounds of its refusals, from the rows of document 01's table: 1 to 8 check's, 9 "a word buffer too short"; it has no other
 abbrev pub Ground : List ℕ → (dead sets : ℕ) → ℕ → Type 0

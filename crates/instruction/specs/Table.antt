@@ -2,9 +2,10 @@
 -- What it computes is the machine's.
 -- Assumes nothing.
 use Prim.Native.Nat.{ℕ, _+_, max}
+use mathlib.Core.Path.{_≡_}
 use mathlib.Core.List.{List, [], _∷_, _++_}
-use mathlib.Core.Bool.{Bool, true, _&&_}
-use lib.Dec.{leb, ltb}
+use mathlib.Core.Bool.{Bool, true, cond, _&&_}
+use lib.Dec.{eqb, leb, ltb}
 use Rattle.cellset.specs.Bits.{is, within}
 use Rattle.instruction.specs.Bytes.{byte, lengthOf, instructionAt}
 use Rattle.instruction.specs.declared.Instruction.{Instruction}
@@ -60,16 +61,25 @@ inTable (tableAt base len) c = within base (base + len) c
 unfoldable pub access : List ℕ → Table → ℕ → ℕ
 access cs t c = max (oneOf cs c) (inTable t c)
 
--- 1 where the instruction may read cell c (01: may read), may write it (may write), must write it
--- "What a command may write it must write, except that PUT must write nothing"
+-- 1 where the instruction may read cell c (01: may read), and where it may write it (may write)
 abbrev pub mayRef : Instruction → ℕ → ℕ
 mayRef i = access (rowOf i .refs) (rowOf i .refTable)
 
 abbrev pub mayDef : Instruction → ℕ → ℕ
 mayDef i = access (rowOf i .defs) (rowOf i .defTable)
 
+-- what of the table of which it may write a cell it must write. 02, Q-3: "A PUT with len 1 must write its base; longer tables remain as 01 has them"
+abbrev pub sureTable : Table → Table
+sureTable noTable = noTable
+sureTable (tableAt base len) = cond (eqb len 1) (tableAt base len) noTable
+
+-- 1 where it must write cell c: "What a command may write it must write, except that PUT must write nothing", but for a table of one cell
 abbrev pub mustDef : Instruction → ℕ → ℕ
-mustDef i = access (rowOf i .defs) noTable
+mustDef i = access (rowOf i .defs) (sureTable (rowOf i .defTable))
+
+-- the cells from base on, len of them, are those where f is 1
+abbrev pub SpanIs : (base len : ℕ) → (ℕ → ℕ) → Type 0
+SpanIs base len f = (c : ℕ) → within base (base + len) c ≡ f c
 
 -- where an instruction may go besides on
 abbrev pub targets : Flow → List ℕ

@@ -6,7 +6,7 @@ use cellset::CellSet;
 ghost use mathlib.Core.Path.{_≡_};
 ghost use mathlib.Core.List.{[], _∷_};
 ghost use Rattle.cellset.specs.Sets.{SetIs};
-ghost use Rattle.instruction.specs.Table.{noTable, tableAt, access, rowOf, mayRef, mayDef, mustDef};
+ghost use Rattle.instruction.specs.Table.{noTable, tableAt, access, rowOf, mayRef, mayDef, mustDef, sureTable, SpanIs};
 
 fn nothing() -> CellSet
     ensures { λ r. ⌜ SetIs (r .words) (access [] noTable) ⌝ }
@@ -60,25 +60,72 @@ pub fn may_ref(i: Instruction) -> CellSet
     }
 }
 
-// The cells that it must write: PUT writes some cell of its table, so none for sure.
-pub fn must_def(i: Instruction) -> CellSet
-    ensures { λ r. ⌜ SetIs (r .words) (mustDef i) ⌝ }
+// The cells from `base` on, `len` of them.
+struct Span {
+    base: u8,
+    len: u8,
+}
+
+fn no_cell() -> Span
+    ensures { λ r. ⌜ SpanIs (r .base) (r .len) (access [] noTable) ⌝ }
+{
+    Span { base: 0, len: 0 }
+}
+
+fn one_cell(d: u8) -> Span
+    ensures { λ r. ⌜ SpanIs (r .base) (r .len) (access (d ∷ []) noTable) ⌝ }
+{
+    Span { base: d, len: 1 }
+}
+
+// The cell of a table that a PUT writes for sure: a table of one cell has no other. The base stays
+// where it writes none for sure, so that only the length has to be chosen.
+fn sure_cell(base: u8, len: u8) -> Span
+    ensures { λ r. ⌜ SpanIs (r .base) (r .len) (access [] (sureTable (tableAt base len))) ⌝ }
+{
+    if len == 1 {
+        return Span {
+            base: base,
+            len: len,
+        };
+    }
+    Span { base: base, len: 0 }
+}
+
+// The cells that it must write, as a span: one of them or none.
+fn sure_cells(i: Instruction) -> Span
+    ensures { λ r. ⌜ SpanIs (r .base) (r .len) (mustDef i) ⌝ }
 {
     match i {
-        Instruction::Set { d, v: _ } => one(d),
-        Instruction::Copy { d, a: _ } => one(d),
-        Instruction::Add { d, a: _, b: _ } => one(d),
-        Instruction::Sub { d, a: _, b: _ } => one(d),
-        Instruction::Div { d, a: _, b: _ } => one(d),
-        Instruction::Read { d } => one(d),
+        Instruction::Set { d, v: _ } => one_cell(d),
+        Instruction::Copy { d, a: _ } => one_cell(d),
+        Instruction::Add { d, a: _, b: _ } => one_cell(d),
+        Instruction::Sub { d, a: _, b: _ } => one_cell(d),
+        Instruction::Div { d, a: _, b: _ } => one_cell(d),
+        Instruction::Read { d } => one_cell(d),
         Instruction::Get {
             d,
             base: _,
             len: _,
             i: _,
-        } => one(d),
-        _ => nothing(),
+        } => one_cell(d),
+        Instruction::Put {
+            base,
+            len,
+            i: _,
+            a: _,
+        } => sure_cell(base, len),
+        _ => no_cell(),
     }
+}
+
+// The cells that it must write. The set is made in one place, since with one in each arm the compiler
+// keeps this a call, and an analysis takes up to a fifth longer.
+pub fn must_def(i: Instruction) -> CellSet
+    ensures { λ r. ⌜ SetIs (r .words) (mustDef i) ⌝ }
+{
+    let s = sure_cells(i);
+    cells_of(s.base, s.len)
 }
 
 // The cells that it may write.

@@ -9,7 +9,7 @@ use lib.Dec.{ltb, leb, eqb}
 use borrow.Author.Tests.{ltb-true, leb-true, eqb-true, eqb-false}
 use Rattle.cellset.specs.Bits.{is}
 use Rattle.instruction.specs.Bytes.{cellsOf, instructionAt}
-use Rattle.instruction.specs.Table.{Table, noTable, tableAt, rowOf, oneOf, inTable, access, mayRef, mayDef, mustDef, named, allBelow, fitsIn, tableFits}
+use Rattle.instruction.specs.Table.{Table, noTable, tableAt, rowOf, oneOf, inTable, access, mayRef, mayDef, mustDef, sureTable, named, allBelow, fitsIn, tableFits}
 use Rattle.program.specs.Places.{isStart}
 use Rattle.instruction.specs.declared.Instruction.{Instruction}
 use Rattle.program.proofs.Tests.{bool-cases, and-both}
@@ -60,7 +60,12 @@ module _ (p : List ℕ) {m n e : ℕ} (a : Accepted p m n e) (o : ℕ) (start : 
   pub start-refs : (c : ℕ) → mayRef (instructionAt p o) c ≡ 1 → c < cellsOf p
   start-refs c = let s = start-cells p a o start in refs-exist (cellsOf p) (instructionAt p o) c (s .0) (s .1)
 
+-- what of a table must be written is of the table
+sure-table : (t : Table) (c : ℕ) → inTable (sureTable t) c ≤ inTable t c
+sure-table noTable c = omega arith
+sure-table (tableAt base len) c = bool-cases (eqb len 1) (λ t. rw t (omega arith)) (λ t. rw t (omega arith))
+
 -- what must be written may be written
 pub must-may : (i : Instruction) (c : ℕ) → mustDef i c ≤ mayDef i c
 unfolding access
-must-may i c = omega arith
+must-may i c = omega (arith, sure-table (rowOf i .defTable) c)

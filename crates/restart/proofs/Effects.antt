@@ -1,18 +1,18 @@
 -- The table's laws: what an instruction's effect reads, where it goes, what it writes.
 -- Assumes nothing.
-use Prim.Native.Nat.{ℕ, _+_, _<_}
+use Prim.Native.Nat.{ℕ, _+_, _≤_, _<_}
 use mathlib.Core.Path.{_≡_, refl, sym, _∙_, ap}
 use mathlib.Core.Bool.{Bool, true, false, cond, or-true}
 use mathlib.Core.List.{List, [], _∷_}
 use native.Mathlib.Omega.{arith}
 use lib.IntN.{ℤ}
 use lib.Dec.{eqb, ltb, leb}
-use borrow.Author.Tests.{ltb-true, lt-ltb, le-leb, eqb-true, eqb-false, eq-eqb, ne-eqb}
+use borrow.Author.Tests.{ltb-true, lt-ltb, le-leb, leb-true, eqb-true, eqb-false, eq-eqb, ne-eqb}
 use Rattle.cellset.specs.Bits.{is, within}
 use Rattle.word.specs.Word.{lessOf}
 use Rattle.word.proofs.Signed.{place-lt}
 use Rattle.instruction.specs.Bytes.{byte, cellsOf, instructionAt}
-use Rattle.instruction.specs.Table.{Table, noTable, tableAt, rowOf, access, mayRef, mayDef, mustDef, successorsOf, successors, fitsIn, tableFits}
+use Rattle.instruction.specs.Table.{Table, noTable, tableAt, rowOf, access, mayRef, mayDef, mustDef, sureTable, successorsOf, successors, fitsIn, tableFits}
 use Rattle.instruction.specs.declared.Instruction.{Instruction}
 use Rattle.instruction.specs.declared.Instruction.the-variants.{End, Set, Copy, Add, Sub, Div, Read, Emit, Jump, Less, Get, Put, Exclude, Checkpoint}
 use Rattle.instruction.specs.declared.Flow.the-variants.{Next}
@@ -55,6 +55,27 @@ access-table n cs base len i h =
 access-other : (d c : ℕ) → ¬ (c ≡ d) → access (d ∷ []) noTable c ≡ 0
 unfolding access
 access-other d c n = let e : is d c ≡ 0 = rw (ne-eqb d c (λ q. n (sym q))) refl in omega (arith, e)
+
+-- one cell from b on is b alone
+within-none : (b len c : ℕ) → len ≡ 1 → ¬ (c ≡ b) → within b (b + len) c ≡ 0
+within-none b len c h n =
+    bool-cases (leb b c)
+    (λ t.
+    let l : b ≤ c = leb-true _ _ t in
+    bool-cases (ltb c (b + len)) (λ u. let g : c < b + len = ltb-true _ _ u in absurd (n (omega arith))) (λ u. rw (t, u) refl))
+    (λ t. rw t refl)
+
+-- no cell of a table must be written but the one that the effect writes: a table of one cell has no other
+sure-other : (base len i c : ℕ) → ¬ (c ≡ tableCell base len i) → access [] (sureTable (tableAt base len)) c ≡ 0
+unfolding access
+sure-other base len i c n =
+    bool-cases (eqb len 1)
+    (λ t.
+    let l : len ≡ 1 = eqb-true _ _ t in
+    let z = place-lt i len (omega arith) in
+    let w = within-none base len c l (λ e. n (omega arith)) in
+    rw t (omega (arith, w)))
+    (λ t. rw t refl)
 
 -- ---- what an effect reads
 
@@ -139,17 +160,17 @@ module _ (p : List ℕ) (o : ℕ) {i : Instruction} (row : instructionAt p o ≡
   row-to q s = rw row s
 
   -- a row that writes nothing
-  row-goes : (q : ℕ) → rowOf i .defs ≡ [] → among q (successorsOf (rowOf i .flow) (nextOf p o)) ≡ true → Goes p o q
+  row-goes : (q : ℕ) → rowOf i .defs ≡ [] → rowOf i .defTable ≡ noTable → among q (successorsOf (rowOf i .flow) (nextOf p o)) ≡ true → Goes p o q
   unfolding access
-  row-goes q e s = record { to = row-to q s; must = λ c. rw (row, e) refl }
+  row-goes q e t s = record { to = row-to q s; must = λ c. rw (row, e, t) refl }
 
   -- a row that writes the cell d
-  row-writes : (d : ℕ) → rowOf i .defs ≡ d ∷ [] → rowOf i .flow ≡ Next → Writes p o d
-  row-writes d e f =
+  row-writes : (d : ℕ) → rowOf i .defs ≡ d ∷ [] → rowOf i .defTable ≡ noTable → rowOf i .flow ≡ Next → Writes p o d
+  row-writes d e t f =
       record {
         to = row-to (nextOf p o) (rw f (among-first (nextOf p o) []));
         may = rw (row, e) (access-first d [] (rowOf i .defTable));
-        must = λ c n. rw (row, e) (access-other d c n);
+        must = λ c n. rw (row, e, t) (access-other d c n);
       }
 
 module _ (p : List ℕ) (o : ℕ) (v : ℤ) (r m : ℕ) (x : ℕ → ℕ) where
@@ -157,28 +178,28 @@ module _ (p : List ℕ) (o : ℕ) (v : ℤ) (r m : ℕ) (x : ℕ → ℕ) where
   by-row : (n : ℕ) (i : Instruction) → instructionAt p o ≡ i → tableFits n i ≡ true → Allowed p o (effectOf i v r m x) → Possible p o (effectOf i v r m x)
   unfolding effectOf access among
   by-row n End e t a = halts
-  by-row n (Set d w) e t a = wrote (row-writes p o e d refl refl)
-  by-row n (Copy d b) e t a = wrote (row-writes p o e d refl refl)
-  by-row n (Add d b c) e t a = wrote (row-writes p o e d refl refl)
-  by-row n (Sub d b c) e t a = wrote (row-writes p o e d refl refl)
-  by-row n (Div d b c) e t a = either-way (eqb (x c) 0) halts (wrote (row-writes p o e d refl refl))
-  by-row n (Read d) e t a = either-way (isFull r) halts (took (row-writes p o e d refl refl))
-  by-row n (Emit b) e t a = either-way (isFull m) halts (gave (row-goes p o e (nextOf p o) refl (among-first (nextOf p o) [])))
-  by-row n (Jump u) e t a = jumps (row-goes p o e u refl (among-first u []))
+  by-row n (Set d w) e t a = wrote (row-writes p o e d refl refl refl)
+  by-row n (Copy d b) e t a = wrote (row-writes p o e d refl refl refl)
+  by-row n (Add d b c) e t a = wrote (row-writes p o e d refl refl refl)
+  by-row n (Sub d b c) e t a = wrote (row-writes p o e d refl refl refl)
+  by-row n (Div d b c) e t a = either-way (eqb (x c) 0) halts (wrote (row-writes p o e d refl refl refl))
+  by-row n (Read d) e t a = either-way (isFull r) halts (took (row-writes p o e d refl refl refl))
+  by-row n (Emit b) e t a = either-way (isFull m) halts (gave (row-goes p o e (nextOf p o) refl refl (among-first (nextOf p o) [])))
+  by-row n (Jump u) e t a = jumps (row-goes p o e u refl refl (among-first u []))
   by-row n (Less b c u) e t a =
       either-way (lessOf (x b) (x c))
-      (jumps (row-goes p o e u refl (among-first u (nextOf p o ∷ []))))
-      (passes (row-goes p o e (nextOf p o) refl (rw (among-first (nextOf p o) [], or-true))))
-  by-row n (Get d base len i) e t a = wrote (row-writes p o e d refl refl)
+      (jumps (row-goes p o e u refl refl (among-first u (nextOf p o ∷ []))))
+      (passes (row-goes p o e (nextOf p o) refl refl (rw (among-first (nextOf p o) [], or-true))))
+  by-row n (Get d base len i) e t a = wrote (row-writes p o e d refl refl refl)
   by-row n (Put base len i b) e t a =
       wrote {d = tableCell base len (x i)}
       (record {
         to = row-to p o e (nextOf p o) (among-first (nextOf p o) []);
         may = rw e (access-table n [] base len (x i) t);
-        must = λ c k. rw e refl;
+        must = λ c k. rw e (sure-other base len (x i) c k);
       })
-  by-row n Exclude e t a = marks (set-byte a) (row-goes p o e (nextOf p o) refl (among-first (nextOf p o) []))
-  by-row n Checkpoint e t a = stores (save-byte a) (row-goes p o e (nextOf p o) refl (among-first (nextOf p o) []))
+  by-row n Exclude e t a = marks (set-byte a) (row-goes p o e (nextOf p o) refl refl (among-first (nextOf p o) []))
+  by-row n Checkpoint e t a = stores (save-byte a) (row-goes p o e (nextOf p o) refl refl (among-first (nextOf p o) []))
 
 -- the effect of an instruction is one that it may have
 pub possible : (p : List ℕ) (o : ℕ) → Legal p → isStart p o ≡ true → (v : ℤ) (r m : ℕ) (x : ℕ → ℕ) → Possible p o (effectOf (instructionAt p o) v r m x)

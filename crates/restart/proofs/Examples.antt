@@ -50,11 +50,11 @@ bytes-by (x ∷ p) h zero = ltb-true _ _ (and-both (ltb x 256) _ h .0)
 bytes-by (x ∷ p) h (suc k) = bytes-by p (and-both (ltb x 256) _ h .1) k
 
 -- what check passes and is of bytes is a plan
-plan-by : (p : List ℕ) {c n e : ℕ} → checkOf p ≡ Program c n e → allOf (λ b. ltb b 256) p ≡ true → Plan p
+pub plan-by : (p : List ℕ) {c n e : ℕ} → checkOf p ≡ Program c n e → allOf (λ b. ltb b 256) p ≡ true → Plan p
 plan-by p {c} {n} {e} h b = record { legal = record { cells = c; instructions = n; excludes = e; accepted = h }; bytes = bytes-by p b }
 
 -- sets of cells below 64, four words each
-abbrev inFour : List ℕ → List ℕ
+abbrev pub inFour : List ℕ → List ℕ
 inFour [] = []
 inFour (x ∷ xs) = x ∷ 0 ∷ 0 ∷ 0 ∷ inFour xs
 
@@ -72,7 +72,7 @@ output n v = record { number = n; value = v }
 
 module _ (t : Trial) where
   -- 01's own lists
-  abbrev Lists : System → Type 0
+  abbrev pub Lists : System → Type 0
   Lists = History (t .program) (t .readings) (t .page) (t .chip) 0 (Erased (t .chip)) (λ w. w ≡ t .words)
 
   -- the system after a recovery that finds the checkpoints js and so many torn bytes; the first one finds none
@@ -93,7 +93,7 @@ module _ (t : Trial) where
       recovers h (t .words) refl _ (outcome-is (envIn t) (t .page) (s .machine) js q shape z trimmed (valuesOf js) (values-some js)) refl
 
   -- a list begins, and recovers
-  beginning : refusalOf (envIn t) (t .page) (length {A = ℕ} (replicate (t .chip) 0xFF)) ≡ 0 → Lists begun
+  pub beginning : refusalOf (envIn t) (t .page) (length {A = ℕ} (replicate (t .chip) 0xFF)) ≡ 0 → Lists begun
   beginning z =
       let none : filledOf (t .page) 0 ≡ 0 = omega (arith, fill-none (t .page) 0 (whole-none (t .page))) in
       subst (λ (torn : ℕ). Lists (recovered (unused 0 (spoiled (replicate (t .chip) 0xFF))) [] torn)) none

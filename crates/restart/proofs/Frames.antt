@@ -21,7 +21,7 @@ use Rattle.restart.specs.Claim.{sameValue, stands, distinct}
 -- ---- lists of outputs
 
 -- an output stands in two parts if it stands in one of them
-stands-append : (o : Numbered) (xs ys : List Numbered) → stands o (xs ++ ys) ≡ (stands o xs || stands o ys)
+pub stands-append : (o : Numbered) (xs ys : List Numbered) → stands o (xs ++ ys) ≡ (stands o xs || stands o ys)
 unfolding stands
 stands-append o [] ys = refl
 stands-append o (x ∷ xs) ys =
@@ -34,7 +34,7 @@ same-refl (pos a) = eq-eqb a a refl
 same-refl (negsuc a) = eq-eqb a a refl
 
 -- it stands at its own place
-stands-there : (o : Numbered) (xs ys : List Numbered) → stands o (xs ++ o ∷ ys) ≡ true
+pub stands-there : (o : Numbered) (xs ys : List Numbered) → stands o (xs ++ o ∷ ys) ≡ true
 unfolding stands
 stands-there o xs ys = rw (stands-append o xs (o ∷ ys), eq-eqb (o .number) (o .number) refl, same-refl (o .value)) (or-true (stands o xs))
 

@@ -15,7 +15,7 @@ use Rattle.program.specs.Places.{isStart, isExclude, excludeNumber}
 use Rattle.program.proofs.Tests.{bool-cases, and-both}
 use Rattle.program.proofs.Accepted.{accepted, start-within, start-next}
 use Rattle.execution.specs.Effects.{Effect, sets, saves, nextOf}
-use Rattle.analysis.specs.Paths.{Follows, Live, Region}
+use Rattle.analysis.specs.Paths.{Follows, Live, later, Region}
 use Rattle.analysis.proofs.Safety.{Inside}
 use Rattle.marks.specs.Marks.{markOf, excluded, saved, recovered, isStored, inSet, excludedMarks, savedMarks, recoveredMarks}
 use Rattle.marks.specs.declared.Mark.{Mark}
@@ -268,7 +268,7 @@ module _ (p : List ℕ) (ρ : List ℤ) (f₀ : Frame) (plan : Plan p) where
       live-undead : (c : ℕ) → c < cellsOf p → Live p c (nextOf p (m .regs .pc)) → ¬ (markAt (m .marks) c ≡ Dead)
       live-undead c l v z =
           let f = subst (Allows p (m .regs .exclude) c) z (h .allows c l) in
-          f .dead (m .regs .pc) (h .inside (f .some)) k (Live.later (behind .must c) (behind .to) v)
+          f .dead (m .regs .pc) (h .inside (f .some)) k (later (behind .must c) (behind .to) v)
 
       -- each other cell has its value in this checkpoint or in those before
       saved-here : (c : ℕ) → c < cellsOf p → (x : Mark) → markAt (m .marks) c ≡ x → ¬ (x ≡ Dead)

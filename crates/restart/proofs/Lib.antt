@@ -15,11 +15,11 @@ pub mod Restoring
 pub mod Sets
 mod Saves
 mod Commits
-mod Lists
-mod Outcomes
+pub mod Lists
+pub mod Outcomes
 mod Testing
-mod Shaped
-mod Computing
+pub mod Shaped
+pub mod Computing
 pub mod Rows
 pub mod Examples
 mod Due

@@ -1,4 +1,4 @@
--- Document 01's rows marked (M), section "A small plan", as one table. Each row claims something of the definitions that the contracts cite; all of them hold,
+-- Document 01's rows marked (M), section "A small plan", and those of document 02's requests, as one table. Each row claims something of the definitions that the contracts cite; all of them hold,
 -- by one test that computes over the table (`rows-hold` of proofs/Rows.antt).
 -- Assumes nothing.
 use Prim.Native.Nat.{ℕ, _≤_}
@@ -131,6 +131,10 @@ abbrev pub firstSave : List ℕ
 firstSave =
     0xA1 ∷ 0x00 ∷ 0x05 ∷ 0x00 ∷ 0x00 ∷ 0x00 ∷ 0xA2 ∷ 0x11 ∷ 0x00 ∷ 0x0F ∷ 0x00 ∷ 0x01 ∷ 0x00 ∷ 0x00 ∷ 0x00 ∷ 0x01 ∷ 0x00 ∷ 0x00 ∷ 0x00 ∷ 0x5A ∷ []
 
+-- EXCLUDE, CHECKPOINT, PUT 1 len 0 0, EMIT 1, END: a PUT at offset 3 into the table of cells 1 to len, which are the last ones, and cell 1 is read behind it
+abbrev pub putInto : (len : ℕ) → List ℕ
+putInto len = len ∷ 0x0D ∷ 0x0E ∷ 0x0C ∷ 1 ∷ len ∷ 0 ∷ 0 ∷ 0x08 ∷ 1 ∷ 0x01 ∷ []
+
 -- a line of 01 to a comment
 abbrev pub rows : List Row
 rows =
@@ -142,6 +146,14 @@ rows =
     -- "`00 0D 01`: DE empty, RO cell 0"
     ∷ setIs (row (0x00 ∷ 0x0D ∷ 0x01 ∷ []) (deOf 1) [])
     ∷ setIs (row (0x00 ∷ 0x0D ∷ 0x01 ∷ []) (roOf 1) (0 ∷ []))
+    -- Q-3: a PUT with len 1 must write its base, so cell 1 is dead before it and in DE; RO does not have it, since it may be written
+    ∷ setIs (row (putInto 1) (deadBefore 3) (1 ∷ []))
+    ∷ setIs (row (putInto 1) (deOf 1) (1 ∷ []))
+    ∷ setIs (row (putInto 1) (roOf 1) (0 ∷ []))
+    -- "longer tables remain as 01 has them": with len 2 cell 1 is live; cell 2 is dead, since nothing reads it
+    ∷ setIs (row (putInto 2) (deadBefore 3) (2 ∷ []))
+    ∷ setIs (row (putInto 2) (deOf 1) (2 ∷ []))
+    ∷ setIs (row (putInto 2) (roOf 1) (0 ∷ []))
     -- "readings 5, 7, −2: outputs 5, 12, 10"
     ∷ outputsAre (trial 60 1000) 19 (pos 5 ∷ pos 12 ∷ pos 10 ∷ [])
     -- "first save `A1 00 05 00 00 00 A2 11 00 0F 00 01 00 00 00 01 00 00 00 5A`"

@@ -82,8 +82,10 @@ module _ {p : List ℕ} (plan : Plan p) where
     kept = λ e c is l b. s .kept e c is l (sym (same-member words (8 * excludeNumber p e + 4) e c (omega arith) is l) ∙ b);
   }
 
-  -- THE WORDS USED ARE SAFE
+  -- THE WORDS USED ARE SAFE where those that stand in the bytes are
+  pub used-safe : (ws : List ℕ) → Safe p (wordsOf ws) → Safe p (setsIn ws)
+  used-safe ws s = subst (Safe p) (sym (sets-first ws (omega (arith, s .enough, length-words ws)))) (first-safe (wordsOf ws) s)
+
+  -- as those that were found are
   pub sets-safe : {ws : List ℕ} → Found p ws → Safe p (setsIn ws)
-  sets-safe {ws} f =
-      let s = found-safe plan (found f) in
-      subst (Safe p) (sym (sets-first ws (omega (arith, s .enough, length-words ws)))) (first-safe (wordsOf ws) s)
+  sets-safe {ws} f = used-safe ws (found-safe plan (found f))

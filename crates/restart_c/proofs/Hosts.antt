@@ -10,14 +10,14 @@ use mathlib.Core.Logic.{_⊎_, inr, ⊎-elim}
 use native.Mathlib.Nat.{add-zero, mul-le-mul-left}
 use native.Mathlib.Omega.{arith}
 use lib.IntN.{ℤ}
-use lib.ListN.{length, getD, take, drop, replicate}
+use lib.ListN.{length, getD, take, drop, replicate, length-replicate}
 use lib.Seq.{drop-nil}
 use Rattle.layout.specs.Numbers.{signedFrom, signedOf}
 use Rattle.layout.specs.Layout.{machineIn}
 use Rattle.execution.specs.Effects.{ended}
 use Rattle.pitskelo.specs.Runs.{RunLent, RunLeft, runCallOf, RecoverCall}
 use Rattle.restart.specs.Reference.{zeros, refAt}
-use Rattle.restart.specs.Claim.{Plan}
+use Rattle.restart.specs.Claim.{Plan, Erased}
 use Rattle.restart.proofs.Hosts.{next-lent}
 use Rattle.restart.proofs.Examples.{twice, twice-plan, twice-stop}
 use Rattle.restart_c.specs.Calls.{Board, fresh, restored, ran, Lends, Calls, begins, recovers, runs, Suffices, Chain, one, more, Found}
@@ -28,9 +28,13 @@ most : (a j : ℕ) → 1 ≤ j → a ≤ (1 + a) * j
 most a j l = let h : (1 + a) * 1 ≤ (1 + a) * j = mul-le-mul-left (1 + a) l in omega (arith, h)
 
 module _ (page : ℕ) (p ws : List ℕ) (ρ : List ℤ) (n j : ℕ) where
+  -- the sets' bytes that the host lends
+  abbrev Own : List ℕ → Type 0
+  Own v = v ≡ ws
+
   -- what the host lends for a call
   pub record HostCall (b : Board) (l : RunLent) : Type 0 where
-    pub lends : Lends page p ws ρ n b l
+    pub lends : Lends page p ρ Own b l
     pub budget : l .budget ≡ j
     pub readings : lends .count ≡ j
     pub places : length (signedOf (l .outputs)) ≡ j
@@ -51,7 +55,7 @@ module _ (page : ℕ) (p ws : List ℕ) (ρ : List ℤ) (n j : ℕ) where
     pub stops : getD (left .numbers) 0 0 ≡ stop
 
   -- each call is equipped for its steps
-  equipped : (k : ℕ) {b : Board} {l : RunLent} → HostCall b l → Suffices page p ws ρ n k b l j
+  equipped : (k : ℕ) {b : Board} {l : RunLent} → HostCall b l → Suffices page p ρ Own k b l j
   equipped k {b} {l} h =
       let at = machineIn page (b .state) (b .chip) .regs .readings in
       let e : take j (drop at ρ) ≡ signedOf (l .readings) = subst (λ (i : ℕ). take i (drop at ρ) ≡ signedOf (l .readings)) (h .readings) (sym (h .lends .readings)) in (
@@ -64,31 +68,31 @@ module _ (page : ℕ) (p ws : List ℕ) (ρ : List ℤ) (n j : ℕ) where
       )
 
   -- so the loop is a chain
-  pub loop-chain : (k : ℕ) {b : Board} {i : ℕ} {o : RunLeft} {b′ : Board} → Loop b i o b′ → Chain page p ws ρ n k b (i * j) o b′
+  pub loop-chain : (k : ℕ) {b : Board} {i : ℕ} {o : RunLeft} {b′ : Board} → Loop b i o b′ → Chain page p ρ Own k b (i * j) o b′
   loop-chain k {b} (once l h) =
       let z : j ≡ 1 * j = omega arith in
-      subst (λ (t : ℕ). Chain page p ws ρ n k b t (runCallOf l) (ran b l (runCallOf l))) z (one l j (equipped k h))
+      subst (λ (t : ℕ). Chain page p ρ Own k b t (runCallOf l) (ran b l (runCallOf l))) z (one l j (equipped k h))
   loop-chain k {b} (again {i} {b′ = b′} c e l h) =
       let z : i * j + j ≡ suc i * j = omega arith in
-      subst (λ (t : ℕ). Chain page p ws ρ n k b t (runCallOf l) (ran b′ l (runCallOf l))) z (more (loop-chain k c) l j (equipped k h))
+      subst (λ (t : ℕ). Chain page p ρ Own k b t (runCallOf l) (ran b′ l (runCallOf l))) z (more (loop-chain k c) l j (equipped k h))
 
   module _ (plan : Plan p) (found : Found p ws) where
     -- a call goes on a list
-    goes-on : {b : Board} {l : RunLent} → Calls page p ws ρ n b → b .good ≡ true → HostCall b l → Calls page p ws ρ n (ran b l (runCallOf l))
+    goes-on : {b : Board} {l : RunLent} → Calls page p ρ Own n 0 (Erased n) b → b .good ≡ true → HostCall b l → Calls page p ρ Own n 0 (Erased n) (ran b l (runCallOf l))
     goes-on {b} {l} c g h = runs c g l (h .lends) (demand-3 page p plan ws found ρ n b c .1 .runs g l (h .lends))
 
     module _ (k : ℕ) (end : ¬ (refAt p ρ zeros k .stop ≡ 0)) where
       -- it is accepted, and answers 4 or the stop
-      call-answers : {b : Board} {l : RunLent} → Calls page p ws ρ n b → b .good ≡ true → HostCall b l
+      call-answers : {b : Board} {l : RunLent} → Calls page p ρ Own n 0 (Erased n) b → b .good ≡ true → HostCall b l
           → let x = getD (runCallOf l .numbers) 0 0 in (runCallOf l .result ≡ 0) × ((x ≡ 4) ⊎ (x ≡ refAt p ρ zeros k .stop))
       call-answers {b} {l} c g h =
           let a = demand-3 page p plan ws found ρ n b c .1 in
-          (a .runs g l (h .lends), a .spends g k end l (subst (Suffices page p ws ρ n k b l) (sym (h .budget)) (equipped k h)))
+          (a .runs g l (h .lends), a .spends g k end l (subst (Suffices page p ρ Own k b l) (sym (h .budget)) (equipped k h)))
 
-      module _ {b : Board} (c : Calls page p ws ρ n b) (g : b .good ≡ true) where
+      module _ {b : Board} (c : Calls page p ρ Own n 0 (Erased n) b) (g : b .good ≡ true) where
         -- so is the last one of the loop
         loop-on : {i : ℕ} {o : RunLeft} {b′ : Board} → Loop b i o b′
-            → Calls page p ws ρ n b′ × (b′ .good ≡ true) × (o .result ≡ 0) × ((getD (o .numbers) 0 0 ≡ 4) ⊎ (getD (o .numbers) 0 0 ≡ refAt p ρ zeros k .stop))
+            → Calls page p ρ Own n 0 (Erased n) b′ × (b′ .good ≡ true) × (o .result ≡ 0) × ((getD (o .numbers) 0 0 ≡ 4) ⊎ (getD (o .numbers) 0 0 ≡ refAt p ρ zeros k .stop))
         loop-on (once l h) = let a = call-answers c g h in (goes-on c g h, g, a .0, a .1)
         loop-on (again d e l h) =
             let x = loop-on d in
@@ -142,11 +146,11 @@ module _ (page : ℕ) (ws : List ℕ) (n : ℕ) where
   unfolding signedOf signedFrom
   host-call b =
       let none = sym (ap (take 1) (drop-nil (machineIn page (b .state) (b .chip) .regs .readings))) in
-      let lends : Lends page twice ws [] n b (hostCall b) = record { kind = refl; plan = refl; sets = refl; chip = refl; state = refl; count = 1; readings = none } in
+      let lends : Lends page twice [] (λ v. v ≡ ws) b (hostCall b) = record { kind = refl; plan = refl; sets = refl; chip = refl; state = refl; count = 1; readings = none } in
       record { lends = lends; budget = refl; readings = refl; places = refl }
 
   -- after a recovery on an erased chip the loop ends: stopped, ended
-  pub twice-ends : Found twice ws → (state left : List ℕ) → RecoverCall page twice ws (replicate n 0xFF) state left 0 → Ends page twice ws [] n 1 (restored (fresh n state) left) ended
+  pub twice-ends : Found twice ws → (state left : List ℕ) → RecoverCall page twice ws (replicate n 0xFF) state left 0 → Ends page twice ws [] n 1 (restored (fresh 0 state (replicate n 0xFF)) left) ended
   twice-ends found state left x =
-      subst (Ends page twice ws [] n 1 (restored (fresh n state) left)) twice-stop
-      (loop-ends page twice ws [] n 1 twice-plan found 3 (λ e. omega (arith, twice-stop)) (recovers (begins state) left x) refl (λ b. (hostCall b, host-call b)) (omega arith))
+      subst (Ends page twice ws [] n 1 (restored (fresh 0 state (replicate n 0xFF)) left)) twice-stop
+      (loop-ends page twice ws [] n 1 twice-plan found 3 (λ e. omega (arith, twice-stop)) (recovers (begins state (replicate n 0xFF) (length-replicate {A = ℕ} n 0xFF) refl) ws refl left x) refl (λ b. (hostCall b, host-call b)) (omega arith))

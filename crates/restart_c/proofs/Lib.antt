@@ -2,7 +2,7 @@
 -- Assumes nothing.
 pub mod Theorem
 pub mod Hosts
-mod FoundSets
+pub mod FoundSets
 mod Outputs
 mod Back
 mod Calling

@@ -9,7 +9,7 @@ use native.Mathlib.Omega.{arith}
 use borrow.Author.Tests.{eqb-true, eq-eqb}
 use lib.Dec.{eqb}
 use lib.IntN.{ℤ}
-use lib.ListN.{length, getD, take, replicate, length-replicate}
+use lib.ListN.{length, getD, take}
 use Rattle.step.specs.State.{envOf, Machine}
 use Rattle.run.specs.Run.{Outcome, started, callOf, answerOf}
 use Rattle.run.specs.declared.Ended.{Ended}
@@ -28,12 +28,12 @@ use Rattle.restart.specs.Reference.{numberedFrom, zeros, refAt, emitted, taken}
 use Rattle.restart.specs.History as list
 use Rattle.restart.specs.History.{Tally, talliedOver, System, Request, outcomeOf, tallyAfter, History}
 use Rattle.restart.specs.Claim as restart
-use Rattle.restart.specs.Claim.{Plan, Claim, Safe, Equipped, Chain, one, more, Erased}
+use Rattle.restart.specs.Claim.{Plan, Claim, Safe, TakenUp, Equipped, Chain, one, more, Erased}
 use Rattle.run.proofs.Accepting.{not-refused}
 use Rattle.restart.proofs.Upheld.{Upheld}
 use Rattle.restart.proofs.Theorem.{upheld, claim, erased-taken}
 use Rattle.restart_c.specs.Calls as calls
-use Rattle.restart_c.specs.Calls.{Board, systemOf, restored, holding, wrote, ran, Lends, Calls, Found, Answers, Demand3}
+use Rattle.restart_c.specs.Calls.{Board, systemOf, restored, holding, wrote, ran, Lends, Calls, Answers, Demand3}
 use Rattle.restart_c.specs.Calls.{begins, refused-recovery, refused-run, recovers, crashes, runs, crashed-run}
 use Rattle.restart_c.proofs.FoundSets.{sets-safe}
 use Rattle.restart_c.proofs.Outputs.{Writes, call-writes}
@@ -46,22 +46,19 @@ kept : {A : Type 0} (own : Bool) {x y z : A} → x ≡ y → (own ≡ true → y
 kept true e f = e ∙ f refl
 kept false e f = refl
 
-module _ (page : ℕ) (p : List ℕ) (plan : Plan p) (ws : List ℕ) (found : Found p ws) (ρ : List ℤ) (n : ℕ) where
-  -- accepted calls are lent these words
-  abbrev Words : List ℕ → Type 0
-  Words w = w ≡ setsIn ws
-
-  -- the histories that begin on an erased chip
+-- a plan, the sets' bytes that accepted calls are lent, with the words that stand in them, and what a list begins with, as crate `restart` wants them
+module _ (page : ℕ) (p : List ℕ) (plan : Plan p) (ρ : List ℤ) (Sets Words : List ℕ → Type 0) (words : (ws : List ℕ) → Sets ws → Words (setsIn ws))
+    (safe : (w : List ℕ) → Words w → Safe p w) (n t₀ : ℕ) (Begins : List ℕ → Type 0) (takes-up : (l : List ℕ) → Begins l → TakenUp page p (refAt p ρ zeros t₀) l) where
+  -- the histories and lists that begin so
   abbrev H : System → Type 0
-  H = History p ρ page n 0 (Erased n) Words
+  H = History p ρ page n t₀ Begins Words
 
-  -- the words are safe
-  safe : (w : List ℕ) → Words w → Safe p w
-  safe w e = subst (Safe p) (sym e) (sets-safe plan found)
+  abbrev C : Board → Type 0
+  C = Calls page p ρ Sets n t₀ Begins
 
   -- the invariant of histories
-  held : {s : System} → H s → Upheld p ρ zeros page n 0 s
-  held h = upheld p ρ zeros plan page n 0 (Erased n) Words (erased-taken p ρ page n) safe h
+  held : {s : System} → H s → Upheld p ρ zeros page n t₀ s
+  held h = upheld p ρ zeros plan page n t₀ Begins Words takes-up safe h
 
   -- a good machine's state has the length of a state
   bytes-size : {m : Machine} {t : Tally} {k : ℕ} → Inv p ρ zeros n m t k → length (bytesOfState m) ≡ stateSize
@@ -70,22 +67,26 @@ module _ (page : ℕ) (p : List ℕ) (plan : Plan p) (ws : List ℕ) (found : Fo
   -- ---- an accepted recovery
 
   -- it leaves the bytes of the state that is restored
-  recovered : {b : Board} → H (systemOf page b) → (left : List ℕ) → RecoverCall page p ws (b .chip) (b .state) left 0 → H (systemOf page (restored b left))
+  recovered : {b : Board} → H (systemOf page b) → (ws : List ℕ) → Sets ws → (left : List ℕ) → RecoverCall page p ws (b .chip) (b .state) left 0 → H (systemOf page (restored b left))
   unfolding regsIn
-  recovered {b} h left x =
+  recovered {b} h ws w left x =
       let r = x .outcome in
       let c = x .recovers (accepted-size x) in
-      let g : H (list.restored (systemOf page b) r) = list.recovers h (setsIn ws) refl r c (accepted-restored x) in
+      let g : H (list.restored (systemOf page b) r) = list.recovers h (setsIn ws) (words ws w) r c (accepted-restored x) in
       let m : machineIn page left (b .chip) ≡ r .machine =
       (λ i. machineIn (sym (held g .paged refl) i) (x .left i) (sym (journal-stays _ _ _ r c) i)) ∙ machine-back plan (held g .inv refl) in
       subst (λ (m : Machine). H (record { machine = m; good = true; tally = list.setBack (b .tally); outputs = b .outputs; steps = 0 })) (sym m) g
 
   -- ---- an accepted run
 
-  module _ {b : Board} (l : RunLent) (x : Lends page p ws ρ n b l) where
+  module _ {b : Board} (l : RunLent) (x : Lends page p ρ Sets b l) where
+    -- the words that it is lent
+    lent-words : Words (setsIn (l .sets))
+    lent-words = words (l .sets) (x .sets)
+
     -- what it asks for
     abbrev request : Request
-    request = record { words = setsIn ws; readings = x .count; budget = l .budget; places = signedOf (l .outputs) }
+    request = record { words = setsIn (l .sets); readings = x .count; budget = l .budget; places = signedOf (l .outputs) }
 
     -- what the machine makes of it
     abbrev made : Outcome
@@ -95,7 +96,7 @@ module _ (page : ℕ) (p : List ℕ) (plan : Plan p) (ws : List ℕ) (found : Fo
     same-outcome : ranOn l ≡ made
     unfolding ranOn outcomeOf
     same-outcome = λ i.
-        callOf (envOf (x .plan i) (setsIn (x .sets i))) (x .readings i) (l .budget) (machineIn (x .kind i) (x .state i) (x .chip i)) (signedOf (l .outputs))
+        callOf (envOf (x .plan i) (setsIn (l .sets))) (x .readings i) (l .budget) (machineIn (x .kind i) (x .state i) (x .chip i)) (signedOf (l .outputs))
 
     -- what stands in the bytes and numbers that are left is the system after the run
     done-same : Writes made (l .outputs) → machineIn page (bytesOfState (made .machine)) (made .machine .journal) ≡ made .machine
@@ -110,7 +111,7 @@ module _ (page : ℕ) (p : List ℕ) (plan : Plan p) (ws : List ℕ) (found : Fo
           machine = e i;
           good = b .good;
           tally =
-              talliedOver (envOf (x .plan i) (setsIn (x .sets i))) (x .readings i) (steps i) (started (machineIn (x .kind i) (x .state i) (x .chip i))) (b .tally);
+              talliedOver (envOf (x .plan i) (setsIn (l .sets))) (x .readings i) (steps i) (started (machineIn (x .kind i) (x .state i) (x .chip i))) (b .tally);
           outputs = b .outputs ++ numberedFrom (machineIn (x .kind i) (x .state i) (x .chip i) .regs .outputs) (outs i);
           steps = b .steps + steps i;
         }
@@ -119,11 +120,11 @@ module _ (page : ℕ) (p : List ℕ) (plan : Plan p) (ws : List ℕ) (found : Fo
     writes : H (systemOf page b) → b .good ≡ true → Writes made (l .outputs)
     unfolding outcomeOf
     writes h g =
-        call-writes _ _ _ _ (l .outputs) (not-refused (record { legal = plan .legal; words = safe (setsIn ws) refl .enough; good = held h .inv g .good }))
+        call-writes _ _ _ _ (l .outputs) (not-refused (record { legal = plan .legal; words = safe (setsIn (l .sets)) lent-words .enough; good = held h .inv g .good }))
 
     -- so the run is one of a history
     made-run : H (systemOf page b) → b .good ≡ true → H (list.ran p ρ (systemOf page b) request)
-    made-run h g = list.runs h g request refl (writes h g .accepted)
+    made-run h g = list.runs h g request lent-words (writes h g .accepted)
 
     made-inv : (h : H (systemOf page b)) (g : b .good ≡ true)
         → Inv p ρ zeros n (made .machine) (tallyAfter p ρ (systemOf page b) request) (b .steps + made .steps)
@@ -170,15 +171,15 @@ module _ (page : ℕ) (p : List ℕ) (plan : Plan p) (ws : List ℕ) (found : Fo
     kind-is h g z = ap (λ (o : RunLeft). getD (o .numbers) 0 0) (left-is z) ∙ kind-at (made .ended) (writes h g .accepted) _
 
     -- what it takes and writes, by the claim of the system before it
-    module _ (c : Claim p ρ zeros n 0 Words page (systemOf page b)) (h : H (systemOf page b)) (g : b .good ≡ true) (z : runCallOf l .result ≡ 0) where
+    module _ (c : Claim p ρ zeros n t₀ Words page (systemOf page b)) (h : H (systemOf page b)) (g : b .good ≡ true) (z : runCallOf l .result ≡ 0) where
       takes-is : let o = runCallOf l in let t = taken p ρ zeros (b .tally .retired) (ran b l o .tally .retired) in
           (getD (o .numbers) 2 0 ≡ length t)
           × (numberedFrom (machineIn page (b .state) (b .chip) .regs .readings) (take (getD (o .numbers) 2 0) (signedOf (l .readings))) ≡ t)
       takes-is =
           let k = number-is h g z 1 in
           let t = ap (λ (t : Tally). taken p ρ zeros (b .tally .retired) (t .retired)) (sym (same-tally h g z)) in (
-            k ∙ c .counts g request refl .0 ∙ ap length t,
-            (λ i. numberedFrom (machineIn page (b .state) (b .chip) .regs .readings) (take (k i) (x .readings i))) ∙ c .takes g request refl ∙ t,
+            k ∙ c .counts g request lent-words .0 ∙ ap length t,
+            (λ i. numberedFrom (machineIn page (b .state) (b .chip) .regs .readings) (take (k i) (x .readings i))) ∙ c .takes g request lent-words ∙ t,
           )
 
       writes-is : let o = runCallOf l in let t = emitted p ρ zeros (b .tally .retired) (ran b l o .tally .retired) in
@@ -188,24 +189,24 @@ module _ (page : ℕ) (p : List ℕ) (plan : Plan p) (ws : List ℕ) (found : Fo
           let t = ap (λ (t : Tally). emitted p ρ zeros (b .tally .retired) (t .retired)) (sym (same-tally h g z)) in
           let outs = ap (λ (o : RunLeft). take (getD (o .numbers) 3 0) (signedOf (o .outputs))) (left-is z)
           ∙ ap (λ (j : ℕ). take j (signedOf (runDone l made .outputs))) (number-at (made .ended) (writes h g .accepted) _ 2) ∙ writes h g .held in (
-            k ∙ c .counts g request refl .1 ∙ ap length t,
-            (λ i. numberedFrom (machineIn (x .kind i) (x .state i) (x .chip i) .regs .outputs) (outs i)) ∙ c .writes g request refl ∙ t,
+            k ∙ c .counts g request lent-words .1 ∙ ap length t,
+            (λ i. numberedFrom (machineIn (x .kind i) (x .state i) (x .chip i) .regs .outputs) (outs i)) ∙ c .writes g request lent-words ∙ t,
           )
 
     -- its steps are within its budget
     steps-most : H (systemOf page b) → b .good ≡ true → runCallOf l .result ≡ 0 → getD (runCallOf l .numbers) 1 0 ≤ l .budget
     unfolding outcomeOf
-    steps-most h g z = omega (arith, number-is h g z 0, call-steps (envOf p (setsIn ws)) (list.lent p ρ (machineIn page (b .state) (b .chip)) request) (l .budget) (machineIn page (b .state) (b .chip)) (signedOf (l .outputs)))
+    steps-most h g z = omega (arith, number-is h g z 0, call-steps (envOf p (setsIn (l .sets))) (list.lent p ρ (machineIn page (b .state) (b .chip)) request) (l .budget) (machineIn page (b .state) (b .chip)) (signedOf (l .outputs)))
 
     -- what it is equipped for
     suffices : {k j : ℕ} → Equipped p ρ zeros k (machineIn page (b .state) (b .chip) .regs) (l .budget) (length (signedOf (l .readings))) (length (signedOf (l .outputs))) j
-        → restart.Suffices p ρ zeros n 0 Words k (systemOf page b) request j
-    suffices e = (refl, record { steps = e .steps; reads = rw (x .readings) at (e .reads); gives = e .gives })
+        → restart.Suffices p ρ zeros n t₀ Words k (systemOf page b) request j
+    suffices e = (lent-words, record { steps = e .steps; reads = rw (x .readings) at (e .reads); gives = e .gives })
 
   -- ---- EVERY LIST IS A HISTORY
-  history : {b : Board} → Calls page p ws ρ n b → H (systemOf page b)
+  pub history : {b : Board} → C b → H (systemOf page b)
   unfolding regsIn
-  history (begins state) = list.begins (machineIn page state (replicate n 0xFF)) (length-replicate n 0xFF) refl
+  history (begins state chip l b) = list.begins (machineIn page state chip) l b
   history (refused-recovery {b} c kind q vs chip state left result x z own same) =
       subst (λ (st : List ℕ). H (systemOf page (holding b st (b .chip)))) (sym (kept own (recovery-kept x z) same)) (history c)
   history (refused-run {b} c l z own-state own-chip same-state same-chip) =
@@ -213,25 +214,25 @@ module _ (page : ℕ) (p : List ℕ) (plan : Plan p) (ws : List ℕ) (found : Fo
       let st = kept own-state (ap (λ (o : RunLeft). o .state) k) same-state in
       let ch = kept own-chip (ap (λ (o : RunLeft). o .chip) k) same-chip in
       subst H (λ i. systemOf page (holding b (sym st i) (sym ch i))) (history c)
-  history (recovers c left x) = recovered (history c) left x
+  history (recovers c ws w left x) = recovered (history c) ws w left x
   history (crashes c state) = list.crashes (history c) (machineIn page state [])
   history (runs c g l x z) = went l x (history c) g z
   history (crashed-run c g l x z state) = list.crashes (went l x (history c) g z) (machineIn page state [])
 
   -- ---- and a good state has its length
 
-  restored-size : {b : Board} → H (systemOf page b) → (left : List ℕ) → RecoverCall page p ws (b .chip) (b .state) left 0 → length left ≡ stateSize
-  restored-size {b} h left x =
+  restored-size : {b : Board} → H (systemOf page b) → (ws : List ℕ) → Sets ws → (left : List ℕ) → RecoverCall page p ws (b .chip) (b .state) left 0 → length left ≡ stateSize
+  restored-size {b} h ws w left x =
       let r = x .outcome in
-      let g : H (list.restored (systemOf page b) r) = list.recovers h (setsIn ws) refl r (x .recovers (accepted-size x)) (accepted-restored x) in
+      let g : H (list.restored (systemOf page b) r) = list.recovers h (setsIn ws) (words ws w) r (x .recovers (accepted-size x)) (accepted-restored x) in
       ap length (x .left) ∙ bytes-size (held g .inv refl)
 
-  sized : {b : Board} → Calls page p ws ρ n b → b .good ≡ true → length (b .state) ≡ stateSize
-  sized (begins state) g = clash false g refl
+  sized : {b : Board} → C b → b .good ≡ true → length (b .state) ≡ stateSize
+  sized (begins state chip l b) g = clash false g refl
   sized (refused-recovery {b} c kind q vs chip state left result x z own same) g = ap length (kept own (recovery-kept x z) same) ∙ sized c g
   sized (refused-run {b} c l z own-state own-chip same-state same-chip) g =
       ap length (kept own-state (ap (λ (o : RunLeft). o .state) (run-kept l z)) same-state) ∙ sized c g
-  sized (recovers c left x) g = restored-size (history c) left x
+  sized (recovers c ws w left x) g = restored-size (history c) ws w left x
   sized (crashes c state) g = clash false g refl
   sized (runs c g l x z) _ = ran-size l x (history c) g z
   sized (crashed-run c g l x z state) e = clash false e refl
@@ -239,22 +240,22 @@ module _ (page : ℕ) (p : List ℕ) (plan : Plan p) (ws : List ℕ) (found : Fo
   -- ---- what the entries answer
 
   -- the claim of the system that the bytes hold
-  claims : {b : Board} → Calls page p ws ρ n b → Claim p ρ zeros n 0 Words page (systemOf page b)
-  claims c = claim p ρ zeros plan page n 0 (Erased n) Words (erased-taken p ρ page n) safe (history c)
+  pub claims : {b : Board} → C b → Claim p ρ zeros n t₀ Words page (systemOf page b)
+  claims c = claim p ρ zeros plan page n t₀ Begins Words takes-up safe (history c)
 
   -- ---- a chain of calls
 
   -- where it leads: to a good board on the list, by a chain of the systems, whose last answer stands in what the last run left
   record Led (k : ℕ) (b : Board) (j : ℕ) (o : RunLeft) (b′ : Board) : Type 0 where
-    pub calls : Calls page p ws ρ n b′
+    pub calls : C b′
     pub good : b′ .good ≡ true
     pub answer : Ended
-    pub chain : Chain p ρ zeros n 0 Words k (systemOf page b) j answer (systemOf page b′)
+    pub chain : Chain p ρ zeros n t₀ Words k (systemOf page b) j answer (systemOf page b′)
     pub result : o .result ≡ 0
     pub kind : getD (o .numbers) 0 0 ≡ getD (answerOf answer .values) 0 0
 
-  led-run : (k : ℕ) (b b′ : Board) (j : ℕ) → Calls page p ws ρ n b′ → b′ .good ≡ true → (l : RunLent) (x : Lends page p ws ρ n b′ l)
-      → Chain p ρ zeros n 0 Words k (systemOf page b) j (made l x .ended) (list.ran p ρ (systemOf page b′) (request l x))
+  led-run : (k : ℕ) (b b′ : Board) (j : ℕ) → C b′ → b′ .good ≡ true → (l : RunLent) (x : Lends page p ρ Sets b′ l)
+      → Chain p ρ zeros n t₀ Words k (systemOf page b) j (made l x .ended) (list.ran p ρ (systemOf page b′) (request l x))
       → Led k b j (runCallOf l) (ran b′ l (runCallOf l))
   led-run k b b′ j c g l x h =
       let z = result l x (history c) g (sized c g) in
@@ -262,12 +263,12 @@ module _ (page : ℕ) (p : List ℕ) (plan : Plan p) (ws : List ℕ) (found : Fo
         calls = runs c g l x z;
         good = g;
         answer = made l x .ended;
-        chain = subst (Chain p ρ zeros n 0 Words k (systemOf page b) j (made l x .ended)) (sym (went-same l x (history c) g z)) h;
+        chain = subst (Chain p ρ zeros n t₀ Words k (systemOf page b) j (made l x .ended)) (sym (went-same l x (history c) g z)) h;
         result = z;
         kind = kind-is l x (history c) g z;
       }
 
-  led : {k : ℕ} {b : Board} {j : ℕ} {o : RunLeft} {b′ : Board} → Calls page p ws ρ n b → b .good ≡ true → calls.Chain page p ws ρ n k b j o b′ → Led k b j o b′
+  led : {k : ℕ} {b : Board} {j : ℕ} {o : RunLeft} {b′ : Board} → C b → b .good ≡ true → calls.Chain page p ρ Sets k b j o b′ → Led k b j o b′
   led {k} {b} c g (calls.one l j e) =
       led-run k b b j c g l (e .0) (one (request l (e .0)) j (suffices l (e .0) (e .1)))
   led {k} {b} c g (calls.more {i} {o} {b′} h l j e) =
@@ -283,13 +284,13 @@ module _ (page : ℕ) (p : List ℕ) (plan : Plan p) (ws : List ℕ) (found : Fo
       subst (Led k b j o) (λ i. holding b′ (sym st i) (sym ch i)) (led c g h)
 
   -- its last run answers the stop
-  reaches : {b : Board} → Calls page p ws ρ n b → b .good ≡ true → (k : ℕ) → ¬ (refAt p ρ zeros k .stop ≡ 0) → (j : ℕ) (o : RunLeft) (b′ : Board)
-      → calls.Chain page p ws ρ n k b j o b′ → k + 2 * n ≤ j → (o .result ≡ 0) × (getD (o .numbers) 0 0 ≡ refAt p ρ zeros k .stop)
+  reaches : {b : Board} → C b → b .good ≡ true → (k : ℕ) → ¬ (refAt p ρ zeros k .stop ≡ 0) → (j : ℕ) (o : RunLeft) (b′ : Board)
+      → calls.Chain page p ρ Sets k b j o b′ → k + 2 * n ≤ j → (o .result ≡ 0) × (getD (o .numbers) 0 0 ≡ refAt p ρ zeros k .stop)
   reaches c g k z j o b′ h m =
       let d = led c g h in
       (d .result, d .kind ∙ ap (λ (x : Ended). getD (answerOf x .values) 0 0) (claims c .stops g k z j (d .answer) (systemOf page b′) (d .chain) m))
 
-  answers : {b : Board} → Calls page p ws ρ n b → Answers page p ws ρ n b
+  pub answers : {b : Board} → C b → Answers page p ρ Sets n b
   answers {b} c =
       record {
         size = sized c;
@@ -308,18 +309,23 @@ module _ (page : ℕ) (p : List ℕ) (plan : Plan p) (ws : List ℕ) (found : Fo
             λ x h. kind ∙ ap (λ (x : Ended). getD (answerOf x .values) 0 0) h in
             ⊎-elim (λ h. inl (by Spent h)) (λ h. inr (by (Stopped _) h)) (claims c .spends g k z (request l (e .0)) (suffices l (e .0) (e .1)));
         not-damaged =
-            λ state left result x e.
+            λ ws w state left result x e.
             bool-cases (eqb (length state) stateSize)
-            (λ s. claims c .not-damaged (setsIn ws) refl (machineIn page state (b .chip)) refl (x .outcome) (x .recovers (eqb-true _ _ s))
+            (λ s. claims c .not-damaged (setsIn ws) (words ws w) (machineIn page state (b .chip)) refl (x .outcome) (x .recovers (eqb-true _ _ s))
             (refused-number (x .outcome .answer) 12 (λ z. omega arith) (sym (rw s at (x .number)) ∙ e)))
             (λ s. odd-number p ws (ap numberOf (plan .legal .accepted)) (sym (rw s at (x .number)) ∙ e));
         restores =
-            λ most state left result size x.
+            λ most ws w state left result size x.
             rw (eq-eqb (length state) stateSize size) at (x .number)
             ∙ ap (λ (a : Recovered). recovery.answerOf a .number)
-            (claims c .taken-up most (setsIn ws) refl (machineIn page state (b .chip)) refl (x .outcome) (x .recovers size));
+            (claims c .taken-up most (setsIn ws) (words ws w) (machineIn page state (b .chip)) refl (x .outcome) (x .recovers size));
       }
 
 -- DEMAND 3, for every page length
 pub demand-3 : (page : ℕ) → Demand3 page
-demand-3 page p plan ws found ρ n b c = (claims page p plan ws found ρ n c, answers page p plan ws found ρ n c)
+demand-3 page p plan ws found ρ n b c =
+    let words : (v : List ℕ) → v ≡ ws → setsIn v ≡ setsIn ws = λ v e. ap setsIn e in
+    let safe : (w : List ℕ) → w ≡ setsIn ws → Safe p w = λ w e. subst (Safe p) (sym e) (sets-safe plan found) in (
+      claims page p plan ρ (λ v. v ≡ ws) (λ w. w ≡ setsIn ws) words safe n 0 (Erased n) (erased-taken p ρ page n) c,
+      answers page p plan ρ (λ v. v ≡ ws) (λ w. w ≡ setsIn ws) words safe n 0 (Erased n) (erased-taken p ρ page n) c,
+    )

@@ -7,7 +7,7 @@ use mathlib.Core.Bool.{Bool, true, false, cond}
 use mathlib.Core.List.{List, [], _++_}
 use mathlib.Core.Logic.{_⊎_}
 use lib.IntN.{ℤ}
-use lib.ListN.{length, getD, take, drop, replicate}
+use lib.ListN.{length, getD, take, drop}
 use Rattle.journal.specs.Format.{chipLength}
 use Rattle.run.specs.Run.{started}
 use Rattle.step.specs.State.{envOf}
@@ -17,7 +17,7 @@ use Rattle.pitskelo.specs.Calls.{AnalyseCall}
 use Rattle.pitskelo.specs.Runs.{setsIn, RunLent, RunLeft, runCallOf, RecoverCall}
 use Rattle.restart.specs.Reference.{Numbered, numberedFrom, zeros, refAt, emitted, taken}
 use Rattle.restart.specs.History.{Tally, setBack, talliedOver, System}
-use Rattle.restart.specs.Claim.{Plan, Claim, Equipped}
+use Rattle.restart.specs.Claim.{Plan, Claim, Erased, Equipped}
 
 -- the host's state and chip; whether an accepted call left the state and no cut has spoiled it; the tally; the outputs so far, numbered; the steps since the last
 -- accepted recovery
@@ -33,14 +33,14 @@ pub record Board : Type 0 where
 abbrev pub systemOf : (page : ℕ) → Board → System
 systemOf page b = record { machine = machineIn page (b .state) (b .chip); good = b .good; tally = b .tally; outputs = b .outputs; steps = b .steps }
 
--- before any call
-abbrev pub fresh : (n : ℕ) → List ℕ → Board
-fresh n state =
+-- before any call, at the tally t
+abbrev pub fresh : (t : ℕ) (state chip : List ℕ) → Board
+fresh t state chip =
     record {
       state = state;
-      chip = replicate n 0xFF;
+      chip = chip;
       good = false;
-      tally = record { retired = 0; committed = 0; highest = 0 };
+      tally = record { retired = t; committed = t; highest = t };
       outputs = [];
       steps = 0;
     }
@@ -75,36 +75,17 @@ ran b l o =
       steps = b .steps + getD (o .numbers) 1 0;
     }
 
--- page is how many bytes the chip stores as a unit: "the accepted calls of a list are all for one kind"
-module _ (page : ℕ) (p ws : List ℕ) (ρ : List ℤ) (n : ℕ) where
+-- page is how many bytes the chip stores as a unit ("the accepted calls of a list are all for one kind"), and `Sets` the bytes of DE and RO that accepted calls are lent
+module _ (page : ℕ) (p : List ℕ) (ρ : List ℤ) (Sets : List ℕ → Type 0) where
   -- an accepted run is lent the plan, its sets, and the state and the chip as last left; its readings are a beginning of those from the next untaken one on
   pub record Lends (b : Board) (l : RunLent) : Type 0 where
     pub kind : l .page ≡ page
     pub plan : l .plan ≡ p
-    pub sets : l .sets ≡ ws
+    pub sets : Sets (l .sets)
     pub chip : l .chip ≡ b .chip
     pub state : l .state ≡ b .state
     pub count : ℕ
     pub readings : signedOf (l .readings) ≡ take count (drop (machineIn page (b .state) (b .chip) .regs .readings) ρ)
-
-  pub data Calls : Board → Type 0 where
-    -- "begins on an erased chip with any state"
-    begins : (state : List ℕ) → Calls (fresh n state)
-    -- a refused call of any content and of either kind, which is lent the list's state (own) or another one
-    refused-recovery : {b : Board} → Calls b → (kind : ℕ) (q vs chip state left : List ℕ) (result : ℕ) → RecoverCall kind q vs chip state left result → ¬ (result ≡ 0)
-        → (own : Bool) → (own ≡ true → state ≡ b .state)
-        → Calls (holding b (cond own left (b .state)) (b .chip))
-    refused-run : {b : Board} → Calls b → (l : RunLent) → ¬ (runCallOf l .result ≡ 0) → (own-state own-chip : Bool) → (own-state ≡ true → l .state ≡ b .state)
-        → (own-chip ≡ true → l .chip ≡ b .chip)
-        → Calls (holding b (cond own-state (runCallOf l .state) (b .state)) (cond own-chip (runCallOf l .chip) (b .chip)))
-    -- an accepted recovery
-    recovers : {b : Board} → Calls b → (left : List ℕ) → RecoverCall page p ws (b .chip) (b .state) left 0 → Calls (restored b left)
-    -- a cut, in a recovery call too: "the state may hold anything"
-    crashes : {b : Board} → Calls b → (state : List ℕ) → Calls (crashed b state)
-    -- an accepted run, and one that is cut: "It ends a run as a budget of the steps done would"
-    runs : {b : Board} → Calls b → b .good ≡ true → (l : RunLent) → Lends b l → runCallOf l .result ≡ 0 → Calls (ran b l (runCallOf l))
-    crashed-run : {b : Board} → Calls b → b .good ≡ true → (l : RunLent) → Lends b l → runCallOf l .result ≡ 0 → (state : List ℕ)
-        → Calls (crashed (ran b l (runCallOf l)) state)
 
   -- a run of the list that is equipped for j of its steps (crate `restart`): of readings and places it is lent as many as their bytes hold
   abbrev pub Suffices : (k : ℕ) → Board → RunLent → (j : ℕ) → Type 0
@@ -123,6 +104,27 @@ module _ (page : ℕ) (p ws : List ℕ) (ρ : List ℤ) (n : ℕ) where
         → (own-state ≡ true → l .state ≡ b′ .state) → (own-chip ≡ true → l .chip ≡ b′ .chip)
         → Chain k b i o (holding b′ (cond own-state (runCallOf l .state) (b′ .state)) (cond own-chip (runCallOf l .chip) (b′ .chip)))
 
+  -- n is the chip's length, t₀ the tally at first, and `Begins` what the chip holds then
+  module _ (n t₀ : ℕ) (Begins : List ℕ → Type 0) where
+    pub data Calls : Board → Type 0 where
+      -- "begins on an erased chip with any state"
+      begins : (state chip : List ℕ) → length chip ≡ n → Begins chip → Calls (fresh t₀ state chip)
+      -- a refused call of any content and of either kind, which is lent the list's state (own) or another one
+      refused-recovery : {b : Board} → Calls b → (kind : ℕ) (q vs chip state left : List ℕ) (result : ℕ) → RecoverCall kind q vs chip state left result → ¬ (result ≡ 0)
+          → (own : Bool) → (own ≡ true → state ≡ b .state)
+          → Calls (holding b (cond own left (b .state)) (b .chip))
+      refused-run : {b : Board} → Calls b → (l : RunLent) → ¬ (runCallOf l .result ≡ 0) → (own-state own-chip : Bool) → (own-state ≡ true → l .state ≡ b .state)
+          → (own-chip ≡ true → l .chip ≡ b .chip)
+          → Calls (holding b (cond own-state (runCallOf l .state) (b .state)) (cond own-chip (runCallOf l .chip) (b .chip)))
+      -- an accepted recovery
+      recovers : {b : Board} → Calls b → (ws : List ℕ) → Sets ws → (left : List ℕ) → RecoverCall page p ws (b .chip) (b .state) left 0 → Calls (restored b left)
+      -- a cut, in a recovery call too: "the state may hold anything"
+      crashes : {b : Board} → Calls b → (state : List ℕ) → Calls (crashed b state)
+      -- an accepted run, and one that is cut: "It ends a run as a budget of the steps done would"
+      runs : {b : Board} → Calls b → b .good ≡ true → (l : RunLent) → Lends b l → runCallOf l .result ≡ 0 → Calls (ran b l (runCallOf l))
+      crashed-run : {b : Board} → Calls b → b .good ≡ true → (l : RunLent) → Lends b l → runCallOf l .result ≡ 0 → (state : List ℕ)
+          → Calls (crashed (ran b l (runCallOf l)) state)
+
 -- "the sets found for it": an accepted call of pitskelo_analyse left these bytes
 pub record Found (p ws : List ℕ) : Type 0 where
   pub dead-lent : List ℕ
@@ -131,34 +133,34 @@ pub record Found (p ws : List ℕ) : Type 0 where
   pub call : AnalyseCall p dead-lent lent dead ws 0
 
 -- what the entries answer, in their own numbers
-pub record Answers (page : ℕ) (p ws : List ℕ) (ρ : List ℤ) (n : ℕ) (b : Board) : Type 0 where
+pub record Answers (page : ℕ) (p : List ℕ) (ρ : List ℤ) (Sets : List ℕ → Type 0) (n : ℕ) (b : Board) : Type 0 where
   -- a good state has its length
   pub size : b .good ≡ true → length (b .state) ≡ stateSize
   -- "a run never gives 10 on a state that an accepted call left and no cut has since spoiled": it is never refused
-  pub runs : b .good ≡ true → (l : RunLent) → Lends page p ws ρ n b l → runCallOf l .result ≡ 0
+  pub runs : b .good ≡ true → (l : RunLent) → Lends page p ρ Sets b l → runCallOf l .result ≡ 0
   -- "Each accepted run, cut or not, takes the readings and writes the outputs, numbers and order included, that the uncut run has between the tallies before and after
   -- it": taken and given are the third and the fourth of its numbers
-  pub takes : b .good ≡ true → (l : RunLent) → Lends page p ws ρ n b l → let o = runCallOf l in let t = taken p ρ zeros (b .tally .retired) (ran b l o .tally .retired) in
+  pub takes : b .good ≡ true → (l : RunLent) → Lends page p ρ Sets b l → let o = runCallOf l in let t = taken p ρ zeros (b .tally .retired) (ran b l o .tally .retired) in
       (getD (o .numbers) 2 0 ≡ length t)
       × (numberedFrom (machineIn page (b .state) (b .chip) .regs .readings) (take (getD (o .numbers) 2 0) (signedOf (l .readings))) ≡ t)
-  pub writes : b .good ≡ true → (l : RunLent) → Lends page p ws ρ n b l → let o = runCallOf l in let t = emitted p ρ zeros (b .tally .retired) (ran b l o .tally .retired) in
+  pub writes : b .good ≡ true → (l : RunLent) → Lends page p ρ Sets b l → let o = runCallOf l in let t = emitted p ρ zeros (b .tally .retired) (ran b l o .tally .retired) in
       (getD (o .numbers) 3 0 ≡ length t) × (wrote l o ≡ t)
   -- steps, the second of its numbers, is at most the budget; "at most n plus twice the chip's length steps follow an accepted recovery before the next"
-  pub steps : b .good ≡ true → (l : RunLent) → Lends page p ws ρ n b l → let o = runCallOf l in
+  pub steps : b .good ≡ true → (l : RunLent) → Lends page p ρ Sets b l → let o = runCallOf l in
       (getD (o .numbers) 1 0 ≤ l .budget) × ((k : ℕ) → ¬ (refAt p ρ zeros k .stop ≡ 0) → b .steps + getD (o .numbers) 1 0 ≤ k + 2 * n)
   -- "so accepted runs given budget, readings and room, with no recovery between, reach that stop": the first of the last run's numbers, ended, is its kind
-  pub stops : b .good ≡ true → (k : ℕ) → ¬ (refAt p ρ zeros k .stop ≡ 0) → (j : ℕ) (o : RunLeft) (b′ : Board) → Chain page p ws ρ n k b j o b′ → k + 2 * n ≤ j
+  pub stops : b .good ≡ true → (k : ℕ) → ¬ (refAt p ρ zeros k .stop ≡ 0) → (j : ℕ) (o : RunLeft) (b′ : Board) → Chain page p ρ Sets k b j o b′ → k + 2 * n ≤ j
       → (o .result ≡ 0) × (getD (o .numbers) 0 0 ≡ refAt p ρ zeros k .stop)
   -- on the way there a run that is equipped for its whole budget spends it: ended is 4, or that kind
-  pub spends : b .good ≡ true → (k : ℕ) → ¬ (refAt p ρ zeros k .stop ≡ 0) → (l : RunLent) → Suffices page p ws ρ n k b l (l .budget)
+  pub spends : b .good ≡ true → (k : ℕ) → ¬ (refAt p ρ zeros k .stop ≡ 0) → (l : RunLent) → Suffices page p ρ Sets k b l (l .budget)
       → let x = getD (runCallOf l .numbers) 0 0 in (x ≡ 4) ⊎ (x ≡ refAt p ρ zeros k .stop)
   -- "recovery never gives 12", whatever state it is lent; one of the right length is restored, unless no chip of the kind has that length
-  pub not-damaged : (state left : List ℕ) (result : ℕ) → RecoverCall page p ws (b .chip) state left result → ¬ (result ≡ 12)
-  pub restores : chipLength page n ≡ true → (state left : List ℕ) (result : ℕ) → length state ≡ stateSize → RecoverCall page p ws (b .chip) state left result → result ≡ 0
+  pub not-damaged : (ws : List ℕ) → Sets ws → (state left : List ℕ) (result : ℕ) → RecoverCall page p ws (b .chip) state left result → ¬ (result ≡ 12)
+  pub restores : chipLength page n ≡ true → (ws : List ℕ) → Sets ws → (state left : List ℕ) (result : ℕ) → length state ≡ stateSize → RecoverCall page p ws (b .chip) state left result → result ≡ 0
 
 -- demand 3 of the C calls for chips with pages of so many bytes: for every list of calls, the claim of the system that the bytes hold, and what the entries answer. `Demand3 1`
 -- is that of pitskelo_recover and pitskelo_run, and `Demand3 16` that of pitskelo_page_recover and pitskelo_page_run
 abbrev pub Demand3 : (page : ℕ) → Type 0
 Demand3 page =
-    (p : List ℕ) → Plan p → (ws : List ℕ) → Found p ws → (ρ : List ℤ) (n : ℕ) (b : Board) → Calls page p ws ρ n b
-    → Claim p ρ zeros n 0 (λ w. w ≡ setsIn ws) page (systemOf page b) × Answers page p ws ρ n b
+    (p : List ℕ) → Plan p → (ws : List ℕ) → Found p ws → (ρ : List ℤ) (n : ℕ) (b : Board) → Calls page p ρ (λ v. v ≡ ws) n 0 (Erased n) b
+    → Claim p ρ zeros n 0 (λ w. w ≡ setsIn ws) page (systemOf page b) × Answers page p ρ (λ v. v ≡ ws) n b

@@ -176,6 +176,14 @@ fn main() {
     );
     sets(b"00 0D 01", b"\x00\x0D\x01");
     sets(b"00 7F", b"\x00\x7F");
+    sets(
+        b"PUT of len 1",
+        b"\x01\x0D\x0E\x0C\x01\x01\x00\x00\x08\x01\x01",
+    );
+    sets(
+        b"PUT of len 2",
+        b"\x02\x0D\x0E\x0C\x01\x02\x00\x00\x08\x01\x01",
+    );
     cell();
     sieve();
     contour();

@@ -110,6 +110,8 @@ struct Command {
     opcode: u8,
     may_read: Set,
     may_write: Set,
+    /// Whether it must write what it may write.
+    writes_surely: bool,
     /// Where it may jump to.
     target: Option<Place>,
     /// The last of the commands that may jump to it.
@@ -153,6 +155,7 @@ fn decode(plan: &[u8], count: usize) -> Vec<Command> {
             opcode,
             may_read,
             may_write,
+            writes_surely: !matches!(*bytes, [PUT, _, (2..), _, _]),
             target: None,
             jumper: None,
             other_jumper: None,
@@ -228,7 +231,7 @@ fn dead_before(commands: &[Command], all: Set, dead: &[Set], place: usize) -> Se
     if let Some(target) = command.target {
         set = intersection(set, dead[usize::from(target)]);
     }
-    if command.opcode != PUT {
+    if command.writes_surely {
         set = union(set, command.may_write);
     }
     difference(set, command.may_read)

@@ -2,7 +2,7 @@
 
 use bench::baseline::{analyse, check, DEAD_WORDS, SET_WORDS};
 use bench::plans::plans;
-use differential::plans::{crowded, large, long, mutated, noise, reversed, woven};
+use differential::plans::{crowded, large, long, mutated, noise, putting, reversed, woven};
 use differential::rng::Rng;
 
 /// The buffer before a call, and as it must be after a call that begins it with these words.
@@ -67,6 +67,7 @@ fn random_plans() {
     }
     for _ in 0..50 {
         plans.push(crowded(&mut rng).bytes);
+        plans.push(putting(&mut rng).bytes);
     }
     for _ in 0..15 {
         plans.push(large(&mut rng).bytes);

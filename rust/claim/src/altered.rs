@@ -5,7 +5,7 @@ use reference::analysis::analyse_with;
 use reference::journal::{read, ERASED, MARK_END};
 use reference::machine::{Ended, Mark, State, Stop};
 use reference::program::{Instruction, CHECKPOINT, EXCLUDE};
-use reference::refusal::STATE_NOT_SOUND;
+use reference::refusal::{CHIP_DAMAGED, STATE_NOT_SOUND};
 
 use crate::engine::{fill, Engine, Lent, Ran};
 
@@ -19,6 +19,10 @@ pub enum Alter {
     KeptByPassedOver,
     /// The analysis takes a PUT for a sure write of its whole table.
     SurePut,
+    /// It takes one to a table of two cells for a sure write of both.
+    SurePutOfTwo,
+    /// It takes one to a table of one cell for a sure write of the cell after it.
+    SurePutBeside,
     /// The torn pages are erased from the lowest address on.
     EraseUpward,
     /// Recovery takes a save for whole that lacks its last page, or a part of it.
@@ -53,6 +57,30 @@ pub enum Alter {
     GoesOnBehindMark,
     /// Recovery goes on a page later where the last MARK ends one.
     GoesOnPageLater,
+    /// Recovery leaves the torn bytes to be stored over and not erased.
+    LeavesTorn,
+    /// Recovery takes a chip for damaged whose last save holds a cell that is Dead by the sets.
+    RefusesDeadCells,
+}
+
+impl Alter {
+    /// Which cells a command must write, where the analysis goes by another rule.
+    fn must_write(self) -> Option<fn(Instruction, u8) -> bool> {
+        match self {
+            Alter::SurePut => Some(Instruction::may_write),
+            Alter::SurePutOfTwo => Some(|instruction, cell| match instruction {
+                Instruction::Put { table, .. } if table.len == 2 => table.contains(cell),
+                _ => instruction.must_write(cell),
+            }),
+            Alter::SurePutBeside => Some(|instruction, cell| match instruction {
+                Instruction::Put { table, .. } if table.len == 1 => {
+                    table.base.checked_add(1) == Some(cell)
+                }
+                _ => instruction.must_write(cell),
+            }),
+            _ => None,
+        }
+    }
 }
 
 /// A sound engine with the alteration.
@@ -63,18 +91,20 @@ pub struct Altered<E> {
 
 impl<E: Engine> Engine for Altered<E> {
     fn analyse(&self, plan: &[u8], sets: &mut [u64]) {
-        if self.alter != Alter::SurePut {
+        let Some(must_write) = self.alter.must_write() else {
             return self.engine.analyse(plan, sets);
-        }
-        let found = analyse_with(plan, Instruction::may_write);
+        };
+        let found = analyse_with(plan, must_write);
         fill(sets, &found.expect("the plan is accepted"));
     }
 
     fn recover(&self, lent: Lent) -> Result<(), u32> {
-        let (page, chip, state) = (lent.page, lent.chip, lent.state);
+        let (plan, page) = (lent.plan, lent.page);
+        let (chip, state) = (lent.chip, lent.state);
+        let before = state.to_vec();
         let mut seen = chip.to_vec();
         if self.alter == Alter::WholeBefore5A {
-            add_final_page(lent.plan, page, &mut seen);
+            add_final_page(plan, page, &mut seen);
         }
         let answer = self.engine.recover(Lent {
             chip: &mut seen,
@@ -82,6 +112,10 @@ impl<E: Engine> Engine for Altered<E> {
             ..lent
         });
         match answer {
+            Ok(()) if self.takes_for_damaged(plan, page, chip, state) => {
+                state.copy_from_slice(&before);
+                return Err(CHIP_DAMAGED);
+            }
             Ok(()) => self.alter_recovered(page, chip, state),
             Err(_) => self.alter_refused(state),
         }
@@ -154,12 +188,26 @@ impl<E> Altered<E> {
         }
     }
 
+    /// Where that is what is altered: whether the chip's last save holds a cell that the state recovered from it marks
+    /// Dead.
+    fn takes_for_damaged(&self, plan: &[u8], page: usize, chip: &[u8], state: &[u8]) -> bool {
+        if self.alter != Alter::RefusesDeadCells {
+            return false;
+        }
+        let held = read(plan, chip, page).expect("recovery took the chip");
+        let state = State::from_bytes(state).expect("recovery leaves a state");
+        let is_dead = |(cell, _): &(u8, i32)| state.marks[usize::from(*cell)] == Mark::Dead;
+        let last = held.saves.last();
+        last.is_some_and(|save| save.records.iter().any(is_dead))
+    }
+
     fn alter_recovered(&self, page: usize, chip: &mut [u8], state: &mut [u8]) {
         let mut recovered = State::from_bytes(state).expect("recovery leaves a state");
         let (saves, rest) = chip.split_at(recovered.write as usize);
         let torn = without_trailing_ff(rest);
         match self.alter {
             Alter::TornBytes => recovered.erase = torn as u32,
+            Alter::LeavesTorn => recovered.erase = 0,
             Alter::GoesOnBehindMark => recovered.write = without_trailing_ff(saves) as u32,
             Alter::GoesOnPageLater if saves.last() == Some(&MARK_END) => {
                 recovered.write += page as u32;

@@ -2,11 +2,12 @@
 //! recoveries, runs, cuts and refused calls, for either kind of chip (document 02, Q-4): the accepted calls of a list
 //! are all for one page length. The engine under test is handed in (`Engine`). `Watch` makes the calls, keeps the tally,
 //! and holds every answer, chip and state to the section's sentences and to the uncut run. `list` draws a list from a
-//! seed, `plans` its plan, `calls` the refused calls. `altered` has engines with one error each, on which the watch has
-//! to fail.
+//! seed, `plans` its plan, `calls` the refused calls. A list may go over two days (`Days`), the sets until Q-3 and those
+//! since. `altered` has engines with one error each, on which the watch has to fail.
 
 pub mod altered;
 pub mod calls;
+pub mod days;
 pub mod engine;
 pub mod list;
 pub mod met;
@@ -17,6 +18,7 @@ pub mod sentence;
 mod step;
 pub mod watch;
 
+pub use days::Days;
 pub use engine::{Engine, Lent, Ran, Reference};
 pub use list::{watch_list, watch_lists};
 pub use met::Met;

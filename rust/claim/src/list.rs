@@ -1,15 +1,18 @@
-//! Random lists of calls for one kind of chip, each drawn from a seed.
+//! Random lists of calls for one kind of chip, each drawn from a seed: under one day's sets, or over the two days of
+//! document 02's request Q-3.
 
 use std::ops::Range;
 use std::thread::{available_parallelism, scope};
 
+use reference::journal::BYTE_CHIP;
 use reference::layout::STATE_BYTES;
 use reference::machine::SET_WORDS;
 
 use crate::calls::{spoiled, try_call};
+use crate::days::Days;
 use crate::engine::Engine;
 use crate::met::Met;
-use crate::plans::plan;
+use crate::plans::{plan, set_points};
 use crate::rng::Rng;
 use crate::sentence::{Sentence, Violation};
 use crate::watch::{Start, Watch};
@@ -18,6 +21,7 @@ use crate::watch::{Start, Watch};
 /// lowest seed whose list violates a sentence, if one does.
 pub fn watch_lists(
     engine: &(impl Engine + Sync),
+    days: Days,
     page: usize,
     seeds: Range<u64>,
     met: &mut Met,
@@ -26,7 +30,7 @@ pub fn watch_lists(
     let outcomes: Vec<_> = scope(|scope| {
         let spawn = |first: usize| {
             let seeds = seeds.clone().skip(first).step_by(count);
-            scope.spawn(move || watch_some(engine, page, seeds))
+            scope.spawn(move || watch_some(engine, days, page, seeds))
         };
         let threads: Vec<_> = (0..count).map(spawn).collect();
         let joined = threads.into_iter().map(|thread| thread.join());
@@ -46,12 +50,13 @@ pub fn watch_lists(
 /// Watches the lists up to the first that violates a sentence.
 fn watch_some(
     engine: &impl Engine,
+    days: Days,
     page: usize,
     mut seeds: impl Iterator<Item = u64>,
 ) -> (Met, Option<(u64, Violation)>) {
     let mut met = Met::default();
     let violated = seeds.find_map(|seed| {
-        let violation = watch_list(engine, page, seed, &mut met).err()?;
+        let violation = watch_list(engine, days, page, seed, &mut met).err()?;
         Some((seed, violation))
     });
     (met, violated)
@@ -60,28 +65,42 @@ fn watch_some(
 /// Watches the list of this seed for a chip of this page length, and adds what it met.
 pub fn watch_list(
     engine: &impl Engine,
+    days: Days,
     page: usize,
     seed: u64,
     met: &mut Met,
 ) -> Result<(), Violation> {
     // An odd factor spreads neighbouring seeds, and takes none but 0 to 0.
     let mut rng = Rng::new((seed + 1).wrapping_mul(0x9E37_79B9_7F4A_7C15));
-    let mut watch = Watch::new(engine, start(&mut rng, page));
+    let mut watch = Watch::new(engine, start(&mut rng, days, page));
     watch.met = std::mem::take(met);
     watch.met.count("lists");
-    let outcome = call_all(&mut watch, &mut rng);
+    let outcome = match days {
+        Days::Today => call_all(&mut watch, &mut rng),
+        Days::Change => call_over_change(&mut watch, &mut rng),
+        Days::Either => {
+            watch.lend_either(Rng::new(1 | rng.word()));
+            call_all(&mut watch, &mut rng)
+        }
+    };
     *met = std::mem::take(&mut watch.met);
     outcome
 }
 
-fn start(rng: &mut Rng, page: usize) -> Start {
+/// What a list begins with. Over two days most plans keep set points, so that their sets differ.
+fn start(rng: &mut Rng, days: Days, page: usize) -> Start {
     Start {
-        plan: plan(rng),
+        plan: match days {
+            Days::Change | Days::Either if rng.below(8) > 0 => set_points(rng),
+            _ => plan(rng),
+        },
         readings: readings(rng),
         page,
-        chip: match rng.below(4) {
-            0 => rng.below(60).next_multiple_of(page),
-            _ => rng.below(401).next_multiple_of(page),
+        chip: match (rng.below(4), days) {
+            (0, _) => rng.below(60).next_multiple_of(page),
+            (_, Days::Today) => rng.below(401).next_multiple_of(page),
+            // Longer ones have room for saves of either day.
+            _ => rng.below(801).next_multiple_of(page),
         },
         state: spoiled(&[0; STATE_BYTES], rng),
         sets: (0..SET_WORDS + rng.below(3)).map(|_| rng.word()).collect(),
@@ -89,13 +108,68 @@ fn start(rng: &mut Rng, page: usize) -> Start {
 }
 
 fn call_all<E: Engine>(watch: &mut Watch<E>, rng: &mut Rng) -> Result<(), Violation> {
-    for _ in 0..5 + rng.below(18) {
+    call_some(watch, rng, 5, 18)?;
+    finish(watch, rng).map(|_| ())
+}
+
+/// Makes at least so many calls, and below `more` others.
+fn call_some<E: Engine>(
+    watch: &mut Watch<E>,
+    rng: &mut Rng,
+    least: usize,
+    more: usize,
+) -> Result<(), Violation> {
+    for _ in 0..least + rng.below(more) {
         match watch.is_good() {
             true => call_when_good(watch, rng)?,
             false => call_when_spoiled(watch, rng)?,
         }
     }
-    finish(watch, rng)
+    Ok(())
+}
+
+/// A list that is begun under the sets until Q-3, on which the day changes at some call.
+fn call_over_change<E: Engine>(watch: &mut Watch<E>, rng: &mut Rng) -> Result<(), Violation> {
+    watch.begin_until();
+    call_some(watch, rng, 1, 8)?;
+    lead_into_save(watch, rng)?;
+    watch.change_day(spoiled(watch.state(), rng));
+    match rng.below(2) {
+        0 => lead_into_save(watch, rng)?,
+        _ => {
+            // Where the next save begins, bytes that were left of a torn one would show.
+            watch.recover()?;
+            watch.run_between_pages(1 + rng.below(2), 80)?;
+        }
+    }
+    watch.cut(spoiled(watch.state(), rng));
+    call_some(watch, rng, 3, 8)?;
+    if finish(watch, rng)? {
+        watch.met.count("stops reached after the change");
+    }
+    Ok(())
+}
+
+/// Mostly runs on for some saves, and then often to where one is torn.
+fn lead_into_save<E: Engine>(watch: &mut Watch<E>, rng: &mut Rng) -> Result<(), Violation> {
+    let lead = rng.below(4);
+    if lead > 0 && !watch.is_good() {
+        watch.recover()?;
+    }
+    if lead > 0 {
+        // A save takes fewer steps where they store pages.
+        let most = match watch.page() {
+            BYTE_CHIP => rng.pick(&[1, 60, 180]),
+            _ => rng.pick(&[1, 15, 45]),
+        };
+        let untaken = watch.untaken();
+        watch.run(untaken, most, rng.below(most) as u64)?;
+    }
+    if lead > 1 {
+        let pages = 48 / watch.page();
+        watch.run_between_pages(1 + rng.below(pages), 60)?;
+    }
+    Ok(())
 }
 
 /// Readings, mostly small so that comparisons go both ways.
@@ -159,8 +233,8 @@ fn run<E: Engine>(watch: &mut Watch<E>, rng: &mut Rng) -> Result<(), Violation> 
 }
 
 /// Where the uncut run is known to stop: runs with what is needed must reach that stop. They are given more budget than
-/// the steps that are left, so that one too many shows.
-fn finish<E: Engine>(watch: &mut Watch<E>, rng: &mut Rng) -> Result<(), Violation> {
+/// the steps that are left, so that one too many shows. Gives whether it is reached.
+fn finish<E: Engine>(watch: &mut Watch<E>, rng: &mut Rng) -> Result<bool, Violation> {
     if watch.steps_left().is_some() && !watch.is_good() {
         watch.recover()?;
     }
@@ -172,7 +246,7 @@ fn finish<E: Engine>(watch: &mut Watch<E>, rng: &mut Rng) -> Result<(), Violatio
         let ran = watch.run(lent, room, budget)?;
         if ran.is_stopped() {
             watch.met.count("stops reached");
-            break;
+            return Ok(true);
         }
         if ran.steps == 0 {
             let text = format!("{ran:?} with {left} steps left");
@@ -180,5 +254,5 @@ fn finish<E: Engine>(watch: &mut Watch<E>, rng: &mut Rng) -> Result<(), Violatio
             return Err(Violation { sentence, text });
         }
     }
-    Ok(())
+    Ok(false)
 }

@@ -5,6 +5,8 @@ use std::fmt;
 
 use reference::journal::BYTE_CHIP;
 
+use crate::days::Days;
+
 /// How much of what a thousand lists have to meet at least, or their test has shown too little.
 const FLOORS: [(&str, u64); 25] = [
     ("whole saves", 1000),
@@ -37,6 +39,32 @@ const FLOORS: [(&str, u64); 25] = [
 /// The same for what only lists for a page chip meet.
 const FLOORS_OF_PAGES: [(&str, u64); 1] = [("saves with filling", 1000)];
 
+/// The same for what only lists on which the day changes meet. "Since" is since Q-3.
+const FLOORS_OF_CHANGE: [(&str, u64); 11] = [
+    ("changes of day", 1000),
+    ("lists whose DE grew", 300),
+    ("changes on a whole save", 200),
+    ("changes on a whole save with a cell in DE since", 40),
+    ("changes on torn bytes", 150),
+    ("torn bytes of before the change erased", 150),
+    ("saves with other bytes than were torn there", 35),
+    ("recoveries that mark a cell Dead since", 180),
+    ("saves with a cell in DE since", 70),
+    ("saves without a cell in DE since", 220),
+    ("stops reached after the change", 300),
+];
+
+/// The same for what only lists meet whose calls get the sets of either day.
+const FLOORS_OF_EITHER: [(&str, u64); 7] = [
+    ("lists whose DE grew", 300),
+    ("calls with the sets until Q-3", 4000),
+    ("calls with today's sets", 4000),
+    ("recoveries that mark a cell Dead since", 60),
+    ("recoveries that mark it as until Q-3", 60),
+    ("saves with a cell in DE since", 120),
+    ("saves without a cell in DE since", 120),
+];
+
 #[derive(Clone, Debug, Default)]
 pub struct Met(BTreeMap<&'static str, u64>);
 
@@ -60,11 +88,16 @@ impl Met {
         self.0.get(name).copied().unwrap_or(0)
     }
 
-    /// Asserts that the lists for chips of this page length met enough of everything.
-    pub fn assert_floors(&self, page: usize) {
+    /// Asserts that the lists of these days for chips of this page length met enough of everything.
+    pub fn assert_floors(&self, days: Days, page: usize) {
         self.assert_floors_per("lists", &FLOORS);
         if page > BYTE_CHIP {
             self.assert_floors_per("lists", &FLOORS_OF_PAGES);
+        }
+        match days {
+            Days::Today => {}
+            Days::Change => self.assert_floors_per("lists", &FLOORS_OF_CHANGE),
+            Days::Either => self.assert_floors_per("lists", &FLOORS_OF_EITHER),
         }
     }
 

@@ -1,5 +1,6 @@
 //! Random accepted plans that save and give outputs: loops over cells and tables with EXCLUDE, CHECKPOINT, READ and
-//! EMIT inside, and loose commands with jumps anywhere.
+//! EMIT inside, and loose commands with jumps anywhere; for lists over the two days of document 02's request Q-3 also
+//! with set points in tables of one cell.
 
 use reference::program::{
     ADD, CHECKPOINT, COPY, DIV, EMIT, END, EXCLUDE, GET, JUMP, LESS, PUT, READ, SET, SUB,
@@ -19,6 +20,9 @@ const SIMPLE: [u8; 20] = [
 /// How deep loops and branches stand in one another.
 const DEPTH: usize = 2;
 
+/// How many cells of a woven plan are for its loops.
+const OF_LOOPS: usize = 4;
+
 /// About how many bytes a plan may have, so that a list of calls is soon done.
 const BYTES: usize = 130;
 
@@ -26,8 +30,35 @@ const BYTES: usize = 130;
 pub fn plan(rng: &mut Rng) -> Vec<u8> {
     match rng.below(16) {
         0 => SMALL.to_vec(),
-        1..4 => loose(rng),
-        _ => woven(rng),
+        1..4 => {
+            let cells = 1 + rng.below(4);
+            let draft = Draft::new(rng, cells);
+            loose(rng, draft)
+        }
+        _ => {
+            let draft = Draft::woven(rng);
+            woven(rng, draft)
+        }
+    }
+}
+
+/// An accepted plan that keeps set points: it puts values into a table of one cell and into a longer one, mostly of
+/// two, and gives or uses them.
+pub fn set_points(rng: &mut Rng) -> Vec<u8> {
+    match rng.below(4) {
+        0 => {
+            let cells = 2 + rng.below(4);
+            let mut draft = Draft::new(rng, cells);
+            draft.keep_set_points(rng, cells);
+            loose(rng, draft)
+        }
+        _ => {
+            let mut draft = Draft::woven(rng);
+            // Of the fewest cells a table of two has one that is a loop's.
+            let most = usize::from(draft.bytes[0]) + 1 - OF_LOOPS;
+            draft.keep_set_points(rng, most.clamp(2, 4));
+            woven(rng, draft)
+        }
     }
 }
 
@@ -36,7 +67,8 @@ struct Draft {
     bytes: Vec<u8>,
     /// The cells that simple commands name.
     named: Vec<u8>,
-    table: [u8; 2],
+    /// The tables that they name, base and len: one, or those of set points.
+    tables: Vec<[u8; 2]>,
     /// A cell that stays 0, one that holds -1, and a counter for each depth, where there are loops.
     zero: u8,
     minus: u8,
@@ -44,8 +76,7 @@ struct Draft {
 }
 
 /// A plan of blocks, every third time in a loop without end.
-fn woven(rng: &mut Rng) -> Vec<u8> {
-    let mut draft = Draft::woven(rng);
+fn woven(rng: &mut Rng, mut draft: Draft) -> Vec<u8> {
     draft.set(draft.minus, -1);
     for _ in 0..rng.below(4) {
         let cell = draft.cell(rng);
@@ -65,9 +96,7 @@ fn woven(rng: &mut Rng) -> Vec<u8> {
 }
 
 /// A plan of loose commands over very few cells, with jumps anywhere.
-fn loose(rng: &mut Rng) -> Vec<u8> {
-    let cells = 1 + rng.below(4);
-    let mut draft = Draft::new(rng, cells);
+fn loose(rng: &mut Rng, mut draft: Draft) -> Vec<u8> {
     let mut offsets = Vec::new();
     let mut targets = Vec::new();
     for left in (0..3 + rng.below(16)).rev() {
@@ -80,6 +109,7 @@ fn loose(rng: &mut Rng) -> Vec<u8> {
             2..6 => draft.bytes.push(rng.pick(&[EXCLUDE, CHECKPOINT])),
             _ => draft.simple(rng),
         }
+        // A set point is several commands, of which only the first is jumped to.
         let at = offsets[offsets.len() - 1];
         if matches!(draft.bytes[at], JUMP | LESS) {
             targets.push(draft.bytes.len() - 2);
@@ -98,7 +128,7 @@ impl Draft {
         Draft {
             bytes: vec![(cells - 1) as u8],
             named: (0..cells).map(|cell| cell as u8).collect(),
-            table: [base as u8, len as u8],
+            tables: vec![[base as u8, len as u8]],
             zero: 0,
             minus: 0,
             counters: Vec::new(),
@@ -116,7 +146,7 @@ impl Draft {
         draft.zero = last;
         draft.minus = last - 1;
         draft.counters = vec![last - 2, last - 3];
-        let most = cells - 4;
+        let most = cells - OF_LOOPS;
         draft.named = (0..2 + rng.below(3))
             .map(|_| {
                 rng.pick(&[0, 1, 2, 3, 62, 63, 64, 127, 128, 191, 255])
@@ -125,8 +155,46 @@ impl Draft {
             .collect();
         let base = rng.pick(&draft.named);
         let longest = (most - usize::from(base)).min(4);
-        draft.table = [base, 1 + rng.below(longest) as u8];
+        draft.tables = vec![[base, 1 + rng.below(longest) as u8]];
         draft
+    }
+
+    /// Gives the draft a table of one cell and a longer one, within so many cells, of which there are two at least.
+    fn keep_set_points(&mut self, rng: &mut Rng, cells: usize) {
+        let one = rng.below(cells) as u8;
+        let len = match rng.below(2) {
+            0 => 2,
+            _ => 2 + rng.below(cells - 1),
+        };
+        let base = rng.below(cells - len + 1) as u8;
+        self.tables = vec![[one, 1], [base, len as u8]];
+    }
+
+    /// The one table, or one of those of set points, more often that of one cell.
+    fn table(&self, rng: &mut Rng) -> [u8; 2] {
+        match self.tables[..] {
+            [table] => table,
+            [one, longer] => rng.pick(&[one, one, longer]),
+            _ => unreachable!("a draft has one table or two"),
+        }
+    }
+
+    /// Puts a value into a table, mostly behind a save, and gives or uses a cell of it.
+    fn set_point(&mut self, rng: &mut Rng) {
+        let [base, len] = self.table(rng);
+        let [a, b] = [(); 2].map(|()| self.cell(rng));
+        match rng.below(3) {
+            0 => self.bytes.extend([EXCLUDE, CHECKPOINT]),
+            1 => self.bytes.extend([EXCLUDE, CHECKPOINT, READ, a]),
+            _ => self.bytes.extend([READ, a]),
+        }
+        self.bytes.extend([PUT, base, len, b, a]);
+        let last = base + len - 1;
+        match rng.below(3) {
+            0 => self.bytes.extend([EMIT, base, EMIT, last]),
+            1 => self.bytes.extend([GET, a, base, len, b, EMIT, a]),
+            _ => self.bytes.extend([ADD, b, last, a]),
+        }
     }
 
     fn cell(&self, rng: &mut Rng) -> u8 {
@@ -164,8 +232,11 @@ impl Draft {
     }
 
     fn simple(&mut self, rng: &mut Rng) {
+        if self.tables.len() > 1 && rng.below(3) == 0 {
+            return self.set_point(rng);
+        }
         let [a, b, c] = [(); 3].map(|()| self.cell(rng));
-        let [base, len] = self.table;
+        let [base, len] = self.table(rng);
         match rng.pick(&SIMPLE) {
             SET => self.set(a, rng.below(9) as i32 - 3),
             COPY => self.bytes.extend([COPY, a, b]),
@@ -202,7 +273,7 @@ impl Draft {
     /// A loop that goes through the table, with a save in each round or none.
     fn sweep(&mut self, rng: &mut Rng, depth: usize) {
         let counter = self.counters[depth];
-        let [base, len] = self.table;
+        let [base, len] = self.table(rng);
         let cell = self.cell(rng);
         self.set(counter, i32::from(len));
         let top = self.bytes.len();
@@ -261,5 +332,27 @@ mod tests {
             assert!(met[usize::from(command)] > 100, "{command:02X}: {met:?}");
         }
         assert!(of_many_cells > 20, "{of_many_cells}");
+    }
+
+    #[test]
+    fn set_points_are_put_into_tables_of_one_cell_and_longer_ones() {
+        let mut rng = Rng::new(0x504C_0000_0000_0002);
+        let mut met = [0; 256];
+        for _ in 0..2_000 {
+            let plan = set_points(&mut rng);
+            check(&plan).expect("the plan is accepted");
+            let mut offset = 1;
+            while offset < plan.len() {
+                if plan[offset] == PUT {
+                    met[usize::from(plan[offset + 2])] += 1;
+                }
+                offset += reference::program::LENGTHS[usize::from(plan[offset])];
+            }
+        }
+        let least = [0, 2_000, 1_000, 100, 100];
+        assert!(
+            met.iter().zip(least).all(|(met, least)| *met >= least),
+            "{met:?}"
+        );
     }
 }

@@ -5,17 +5,15 @@
 //! budget 1. These are runs of a list too, so the sentences are checked after each of them. Then it makes the call
 //! itself, which has to leave and answer the same.
 
-use std::collections::BTreeMap;
-
 use reference::journal::ERASED;
 use reference::layout::STATE_BYTES;
 use reference::machine::State;
-use reference::program::{Instruction, FIRST_INSTRUCTION};
-use reference::Set;
 
-use crate::engine::{Engine, Lent, Ran};
+use crate::days::{dead_sets, DeadSets, TwoDays};
+use crate::engine::{fill, Engine, Lent, Ran};
 use crate::met::Met;
 use crate::record::Record;
+use crate::rng::Rng;
 use crate::sentence::{hold, shown, Sentence, Violation};
 use crate::step::Step;
 
@@ -49,6 +47,12 @@ struct Point {
     so_far: Vec<i32>,
 }
 
+/// Where each accepted call gets the sets of either day: those of both, and what draws between them.
+struct Either {
+    sets: [Vec<u64>; 2],
+    rng: Rng,
+}
+
 /// A list of calls to an engine, with one plan, one list of readings and one kind of chip.
 pub struct Watch<'e, E> {
     engine: &'e E,
@@ -57,7 +61,10 @@ pub struct Watch<'e, E> {
     page: usize,
     readings: Vec<i32>,
     /// The dead cells before each command, by the reference's analysis.
-    dead: BTreeMap<u32, Set>,
+    dead: DeadSets,
+    /// Of a list over the two days of Q-3, what it meets.
+    days: Option<TwoDays>,
+    either: Option<Either>,
     record: Record,
     stop_after: Option<usize>,
     point: Point,
@@ -72,11 +79,14 @@ impl<'e, E: Engine> Watch<'e, E> {
         let mut record = Record::new(&start.plan, &start.readings);
         let mut sets = start.sets;
         engine.analyse(&start.plan, &mut sets);
+        let analysis = reference::analyse(&start.plan).expect("the plan is accepted");
         Watch {
             engine,
             sets,
             page: start.page,
-            dead: dead_sets(&start.plan),
+            dead: dead_sets(&start.plan, &analysis),
+            days: None,
+            either: None,
             plan: start.plan,
             readings: start.readings,
             stop_after: record.stop_within(LIMIT),
@@ -93,6 +103,54 @@ impl<'e, E: Engine> Watch<'e, E> {
             },
             good: false,
             met: Met::default(),
+        }
+    }
+
+    /// Begins the list under the sets until Q-3, before its first call. Cells are held that are not dead by them: those
+    /// not dead by today's are among them.
+    pub fn begin_until(&mut self) {
+        let days = self.look_at_days();
+        fill(&mut self.sets, &days.until);
+        self.dead = dead_sets(&self.plan, &days.until);
+        self.days = Some(days);
+    }
+
+    /// The day changes: the state is spoiled as by a cut, and the list goes on with the chip, and today's sets, as the
+    /// engine's analysis finds them.
+    pub fn change_day(&mut self, spoiled: Vec<u8>) {
+        let days = self.days.as_mut().expect("a list begun until Q-3");
+        let (chip, met) = (&self.point.chip, &mut self.met);
+        days.change(&self.plan, self.page, chip, met);
+        self.dead = dead_sets(&self.plan, &days.today);
+        self.engine.analyse(&self.plan, &mut self.sets);
+        self.cut(spoiled);
+    }
+
+    /// Lets each accepted call get the sets of either day.
+    pub fn lend_either(&mut self, rng: Rng) {
+        let days = self.look_at_days();
+        let mut until = self.sets.clone();
+        fill(&mut until, &days.until);
+        self.either = Some(Either {
+            sets: [until, self.sets.clone()],
+            rng,
+        });
+        self.days = Some(days);
+    }
+
+    fn look_at_days(&mut self) -> TwoDays {
+        let days = TwoDays::of(&self.plan);
+        days.count_list(&mut self.met);
+        days
+    }
+
+    /// Draws the sets of the next accepted call, where it gets those of either day.
+    fn draw_sets(&mut self) {
+        if let Some(either) = &mut self.either {
+            let day = either.rng.below(2);
+            self.met
+                .count(["calls with the sets until Q-3", "calls with today's sets"][day]);
+            self.sets.clone_from(&either.sets[day]);
         }
     }
 
@@ -153,6 +211,9 @@ impl<'e, E: Engine> Watch<'e, E> {
     pub fn recover(&mut self) -> Result<(), Violation> {
         let recovered = self.recovered()?;
         self.met.count("recoveries");
+        if let Some(days) = &self.days {
+            days.recovered(&recovered, &mut self.met);
+        }
         self.point.state = recovered;
         self.point.tally = self.point.saved;
         (self.point.steps, self.point.erased) = (0, 0);
@@ -170,7 +231,8 @@ impl<'e, E: Engine> Watch<'e, E> {
     }
 
     /// The state that a recovery leaves, which must be accepted and leave the chip alone.
-    fn recovered(&self) -> Result<Vec<u8>, Violation> {
+    fn recovered(&mut self) -> Result<Vec<u8>, Violation> {
+        self.draw_sets();
         let mut left = self.point.clone();
         let lent = lend(&self.plan, &self.sets, self.page, &mut left);
         let answer = self.engine.recover(lent);
@@ -214,6 +276,7 @@ impl<'e, E: Engine> Watch<'e, E> {
         times: usize,
     ) -> Result<Ran, Violation> {
         assert!(self.good, "a run on a spoiled state is in no list");
+        self.draw_sets();
         let next = self.readings.len() - self.untaken();
         let readings = self.readings[next..next + lent].to_vec();
         let before = self.point.clone();
@@ -281,8 +344,12 @@ impl<'e, E: Engine> Watch<'e, E> {
     ) -> Result<(), Violation> {
         let from = self.point.tally;
         if ran.steps == 1 {
-            self.step(Step::between(&self.plan, before, after));
+            let step = Step::between(&self.plan, before, after);
+            self.step(step);
             self.count_filling(before, after);
+            if let Some(days) = &mut self.days {
+                days.step(step, [before, after], &self.point.chip, &mut self.met);
+            }
         }
         let to = self.point.tally;
         check_traffic(&mut self.record, from, to, ran, outputs)?;
@@ -361,19 +428,6 @@ fn between_pages(state: &State, erased: u64) -> Option<&'static str> {
     }
 }
 
-/// The dead cells before each command, by its offset.
-fn dead_sets(plan: &[u8]) -> BTreeMap<u32, Set> {
-    let analysis = reference::analyse(plan).expect("the plan is accepted");
-    let mut offset = FIRST_INSTRUCTION;
-    let mut sets = BTreeMap::new();
-    for dead in analysis.dead {
-        let (_, length) = Instruction::decode(&plan[offset..]).expect("the plan is accepted");
-        sets.insert(offset as u32, dead);
-        offset += length;
-    }
-    sets
-}
-
 /// The state that stands in the bytes; a run would refuse bytes that are none.
 fn state_of(point: &Point) -> Result<State, Violation> {
     State::from_bytes(&point.state).ok_or_else(|| Violation {
@@ -391,7 +445,7 @@ fn accepted(answer: Result<Ran, u32>) -> Result<Ran, Violation> {
 
 /// "place, counts, kind of stop and every cell not dead before that place are the uncut run's after as many commands as
 /// the tally says".
-fn agree(record: &mut Record, dead: &BTreeMap<u32, Set>, point: &Point) -> Result<(), Violation> {
+fn agree(record: &mut Record, dead: &DeadSets, point: &Point) -> Result<(), Violation> {
     let state = state_of(point)?;
     let frame = record.at(point.tally);
     let place = || {
@@ -516,5 +570,25 @@ mod tests {
             violated(check_so_far(&mut watch.record, &watch.point)),
             None
         );
+    }
+
+    #[test]
+    fn before_the_change_cells_are_held_that_were_live_until_then() {
+        // EXCLUDE, CHECKPOINT, READ 1, PUT of cell 1 to the table of cell 0 alone, EMIT 0, JUMP to EXCLUDE.
+        let plan = [1, 0x0D, 0x0E, 0x07, 1, 0x0C, 0, 1, 1, 1, 8, 0, 9, 1, 0];
+        for (is_until, sentence) in [(false, None), (true, Some(Sentence::Cells))] {
+            let mut watch = before_all(&plan);
+            watch.point.chip = vec![ERASED; 28];
+            let todays = watch.sets.clone();
+            if is_until {
+                watch.begin_until();
+                watch.sets = todays;
+            }
+            watch.recover().unwrap();
+            // Two saves, which by today's sets have a MARK alone, and the four commands between them.
+            watch.run(1, 1, 16 + 4 + 16).unwrap();
+            watch.cut(vec![0x00; STATE_BYTES]);
+            assert_eq!(violated(watch.recover()), sentence);
+        }
     }
 }

@@ -1,15 +1,18 @@
-//! Document 01's demand 3 on the Rust version, over random lists of calls for either kind of chip; and that the same
-//! lists find each of the altered engines.
+//! Document 01's demand 3 on the Rust version, over random lists of calls for either kind of chip, and over lists that
+//! go over the two days of document 02's request Q-3; and that the same lists find each of the altered engines.
 
 use std::env;
 use std::ops::Range;
 
 use claim::altered::{Alter, Altered};
-use claim::{watch_list, watch_lists, Engine, Met, Reference, Sentence};
+use claim::{watch_list, watch_lists, Days, Engine, Met, Reference, Sentence};
 use reference::journal::{BYTE_CHIP, PAGE_CHIP};
 
 /// The lists for the Rust version and each kind of chip, unless `CLAIM_LISTS` says another number.
 const LISTS: u64 = 4_000;
+
+/// One list over two days for so many of one day.
+const OF_ONE_DAY: u64 = 2;
 
 const KINDS: [usize; 2] = [BYTE_CHIP, PAGE_CHIP];
 
@@ -31,44 +34,62 @@ const OF_THE_CLAIM: [Sentence; 11] = [
     Sentence::StopReached,
 ];
 
-/// The first of few seeds whose list for this kind the altered engine violates in one of these sentences.
-fn caught(alter: Alter, page: usize, by: &[Sentence]) {
-    let engine = Altered {
+fn lists() -> u64 {
+    env::var("CLAIM_LISTS").map_or(LISTS, |number| number.parse().unwrap())
+}
+
+fn altered(alter: Alter) -> Altered<Reference> {
+    Altered {
         engine: Reference,
         alter,
-    };
-    let violation = |seed| watch_list(&engine, page, seed, &mut Met::default()).err();
+    }
+}
+
+/// The first of few seeds whose list over these days and for this kind the altered engine violates in one of these
+/// sentences.
+#[track_caller]
+fn caught(alter: Alter, days: Days, page: usize, by: &[Sentence]) {
+    let engine = altered(alter);
+    let violation = |seed| watch_list(&engine, days, page, seed, &mut Met::default()).err();
     let (seed, violation) = FEW
         .filter_map(|seed| Some((seed, violation(seed)?)))
         .find(|(_, violation)| by.contains(&violation.sentence))
-        .unwrap_or_else(|| panic!("{alter:?}, pages of {page}, is not caught by {FEW:?}"));
-    println!("{alter:?}, pages of {page}, seed {seed}: {violation}");
+        .unwrap_or_else(|| {
+            panic!("{alter:?}, {days:?}, pages of {page}, is not caught by {FEW:?}")
+        });
+    println!("{alter:?}, {days:?}, pages of {page}, seed {seed}: {violation}");
 }
 
 #[track_caller]
-fn keeps_the_claim(engine: &(impl Engine + Sync), seeds: Range<u64>) {
+fn keeps_the_claim(engine: &(impl Engine + Sync), days: Days, seeds: Range<u64>) {
     for page in KINDS {
         let mut met = Met::default();
-        if let Err((seed, violation)) = watch_lists(engine, page, seeds.clone(), &mut met) {
-            panic!("pages of {page}, seed {seed}: {violation}");
+        if let Err((seed, violation)) = watch_lists(engine, days, page, seeds.clone(), &mut met) {
+            panic!("{days:?}, pages of {page}, seed {seed}: {violation}");
         }
-        println!("Lists for chips with pages of {page}:");
+        println!("Lists of {days:?} for chips with pages of {page}:");
         print!("{met}");
-        met.assert_floors(page);
+        met.assert_floors(days, page);
     }
 }
 
 #[test]
 fn the_rust_version_keeps_the_claim() {
-    let lists = env::var("CLAIM_LISTS").map_or(LISTS, |number| number.parse().unwrap());
-    keeps_the_claim(&Reference, 0..lists);
+    keeps_the_claim(&Reference, Days::Today, 0..lists());
+}
+
+#[test]
+fn lists_over_two_days_keep_the_claim() {
+    for days in [Days::Change, Days::Either] {
+        keeps_the_claim(&Reference, days, 0..lists() / OF_ONE_DAY);
+    }
 }
 
 /// What the two kinds share holds for any page length.
 #[test]
 fn pages_of_any_length_keep_the_claim() {
     for page in BYTE_CHIP + 1..PAGE_CHIP {
-        let watched = watch_lists(&Reference, page, 0..100, &mut Met::default());
+        let watched = watch_lists(&Reference, Days::Today, page, 0..100, &mut Met::default());
         if let Err((seed, violation)) = watched {
             panic!("pages of {page}, seed {seed}: {violation}");
         }
@@ -77,11 +98,9 @@ fn pages_of_any_length_keep_the_claim() {
 
 #[test]
 fn the_wrapper_alone_keeps_the_claim() {
-    let engine = Altered {
-        engine: Reference,
-        alter: Alter::Nothing,
-    };
-    keeps_the_claim(&engine, FEW);
+    for days in [Days::Today, Days::Change, Days::Either] {
+        keeps_the_claim(&altered(Alter::Nothing), days, FEW);
+    }
 }
 
 #[test]
@@ -90,13 +109,15 @@ fn the_errors_to_rule_out_are_caught_by_the_claim() {
         Alter::DeadStaysDead,
         Alter::KeptByPassedOver,
         Alter::SurePut,
+        Alter::SurePutOfTwo,
+        Alter::SurePutBeside,
         Alter::EraseUpward,
         Alter::WholeBefore5A,
         Alter::CountedBeforeGiven,
         Alter::OnlySaysSo,
     ] {
         for page in KINDS {
-            caught(alter, page, &OF_THE_CLAIM);
+            caught(alter, Days::Today, page, &OF_THE_CLAIM);
         }
     }
 }
@@ -111,7 +132,34 @@ fn errors_of_pages_are_caught_by_the_claim() {
         Alter::GoesOnBehindMark,
         Alter::GoesOnPageLater,
     ] {
-        caught(alter, PAGE_CHIP, &OF_THE_CLAIM);
+        caught(alter, Days::Today, PAGE_CHIP, &OF_THE_CLAIM);
+    }
+}
+
+/// They are in force from the change on, or at every other call.
+#[test]
+fn wrong_rules_of_put_are_caught_over_two_days() {
+    for alter in [Alter::SurePut, Alter::SurePutOfTwo, Alter::SurePutBeside] {
+        for days in [Days::Change, Days::Either] {
+            for page in KINDS {
+                caught(alter, days, page, &OF_THE_CLAIM);
+            }
+        }
+    }
+}
+
+/// On one day a torn save comes again with the same cells, each where it stood, and no save holds a cell of DE: these
+/// errors show where the sets change, and nowhere else.
+#[test]
+fn errors_that_show_at_a_change_of_day_are_caught_there() {
+    for alter in [Alter::LeavesTorn, Alter::RefusesDeadCells] {
+        for page in KINDS {
+            let found = watch_lists(&altered(alter), Days::Today, page, FEW, &mut Met::default());
+            assert!(found.is_ok(), "{alter:?}, pages of {page}: {found:?}");
+            for days in [Days::Change, Days::Either] {
+                caught(alter, days, page, &[Sentence::RecoveryRefused]);
+            }
+        }
     }
 }
 
@@ -134,7 +182,7 @@ fn each_sentence_is_seen_to_fail() {
         (Alter::InventsAStep, Sentence::StepsOfRun),
     ] {
         for page in KINDS {
-            caught(alter, page, &[sentence]);
+            caught(alter, Days::Today, page, &[sentence]);
         }
     }
 }

@@ -2,15 +2,29 @@
 //! that they are seen to try it.
 
 use std::collections::BTreeSet;
+use std::ops::RangeInclusive;
 
 use reference::program::{Instruction, FIRST_INSTRUCTION};
-use reference::{Analysis, Set};
+use reference::{analyse_until, Analysis, Set};
 
-/// Every feature by name, and whether the plan has it. The analysis is the reference's of the plan.
-pub fn features(plan: &[u8], analysis: &Analysis) -> [(&'static str, bool); 37] {
+/// A feature by name, and whether the plan has it.
+type Feature = (&'static str, bool);
+
+/// Every feature. The analysis is the reference's of the plan.
+pub fn features(plan: &[u8], analysis: &Analysis) -> Vec<Feature> {
     let view = View::new(plan, analysis);
-    let cells = view.cells.len();
     [
+        of_cells(&view),
+        of_commands(&view),
+        of_puts(&view, plan),
+        of_regions(&view),
+    ]
+    .concat()
+}
+
+fn of_cells(view: &View) -> Vec<Feature> {
+    let cells = view.cells.len();
+    vec![
         ("1 cell", cells == 1),
         ("63 cells", cells == 63),
         ("64 cells", cells == 64),
@@ -27,17 +41,47 @@ pub fn features(plan: &[u8], analysis: &Analysis) -> [(&'static str, bool); 37] 
         ("both dead and live in word 1", view.mixes_word(1)),
         ("both dead and live in word 2", view.mixes_word(2)),
         ("both dead and live in word 3", view.mixes_word(3)),
+    ]
+}
+
+fn of_commands(view: &View) -> Vec<Feature> {
+    vec![
         ("300 commands", view.commands.len() >= 300),
         ("a command out of reach", view.has_out_of_reach()),
         ("a read of what is written", view.any(View::reads_its_own)),
         ("a GET that makes live", view.any(View::gets_dead)),
-        ("a PUT over a live cell", view.any(View::puts_over_live)),
         ("a JUMP to itself", view.any(View::jumps_to_itself)),
         ("a LESS to itself", view.any(View::branches_to_itself)),
         ("a LESS forward", view.any(View::branches_forward)),
         ("a LESS backward", view.any(View::branches_backward)),
         ("a LESS of two ways", view.any(View::branches_apart)),
         ("a value over 4 JUMPs backward", view.any(View::goes_back)),
+    ]
+}
+
+/// What has to do with request Q-3: the longest tables have 255 cells.
+fn of_puts(view: &View, plan: &[u8]) -> Vec<Feature> {
+    let over_live = |lengths| view.any(|view, place| view.puts_over_live(place, &lengths));
+    let grew = match view.any(View::puts_to_one) {
+        true => view.grew(&analyse_until(plan).expect("the plan is accepted")),
+        false => [false; 2],
+    };
+    vec![
+        ("a PUT of 1 that makes dead", view.any(View::puts_surely)),
+        (
+            "a PUT of 1 that reads its cell",
+            view.any(View::puts_itself),
+        ),
+        ("a PUT of 2 over a live cell", over_live(2..=2)),
+        ("a PUT of 255 over a live cell", over_live(255..=255)),
+        ("a PUT of 2 to 255 over a live cell", over_live(2..=255)),
+        ("dead sets that grew with Q-3", grew[0]),
+        ("a DE that grew with Q-3", grew[1]),
+    ]
+}
+
+fn of_regions(view: &View) -> Vec<Feature> {
+    vec![
         ("2 EXCLUDEs, 2 CHECKPOINTs", view.has_two_of_each()),
         ("a region without CHECKPOINT", view.any(View::has_no_save)),
         ("a region of unlike CHECKPOINTs", view.any(View::needs_all)),
@@ -181,14 +225,41 @@ impl<'a> View<'a> {
         })
     }
 
-    /// Whether a cell of the table would be dead if this PUT surely wrote it.
-    fn puts_over_live(&self, place: usize) -> bool {
+    /// Whether a cell of the table would be dead if this PUT, to a table of such a length, surely wrote it.
+    fn puts_over_live(&self, place: usize, lengths: &RangeInclusive<u8>) -> bool {
         let Instruction::Put { table, i, a } = self.at(place) else {
             return false;
         };
-        self.any_cell(|cell| {
-            table.contains(cell) && cell != i && cell != a && !self.is_dead(cell, place + 1)
-        })
+        lengths.contains(&table.len)
+            && self.any_cell(|cell| {
+                table.contains(cell) && cell != i && cell != a && !self.is_dead(cell, place + 1)
+            })
+    }
+
+    fn puts_to_one(&self, place: usize) -> bool {
+        matches!(self.at(place), Instruction::Put { table, .. } if table.len == 1)
+    }
+
+    /// Whether the one cell of the table is dead only because this PUT surely writes it.
+    fn puts_surely(&self, place: usize) -> bool {
+        self.puts_over_live(place, &(1..=1))
+    }
+
+    /// Whether the one cell of the table is the index or the value as well, so that it is live.
+    fn puts_itself(&self, place: usize) -> bool {
+        self.puts_to_one(place) && self.reads_its_own(place)
+    }
+
+    /// Whether dead sets, and whether DE, have a cell that they had not until Q-3.
+    fn grew(&self, until: &Analysis) -> [bool; 2] {
+        let de = |analysis: &Analysis| -> Vec<Set> {
+            let excludes = analysis.excludes.iter();
+            excludes.map(|(_, de, _)| de.clone()).collect()
+        };
+        [
+            self.analysis.dead != until.dead,
+            de(self.analysis) != de(until),
+        ]
     }
 
     fn jumps_to_itself(&self, place: usize) -> bool {
@@ -344,6 +415,41 @@ mod tests {
                 "a LESS of two ways",
             ]
         );
+    }
+
+    #[test]
+    fn puts_to_tables_of_each_length() {
+        let of_puts = |put: [u8; 5]| {
+            // EXCLUDE, CHECKPOINT, PUT, EMIT 0, END.
+            let plan = [&[0xFF, 0x0D, 0x0E][..], &put, &[0x08, 0, 0x01]].concat();
+            let mut names = names(&plan);
+            names.retain(|name| name.contains("PUT") || name.contains("Q-3"));
+            names
+        };
+        assert_eq!(
+            of_puts([0x0C, 0, 1, 9, 9]),
+            [
+                "a PUT of 1 that makes dead",
+                "dead sets that grew with Q-3",
+                "a DE that grew with Q-3",
+            ]
+        );
+        assert_eq!(
+            of_puts([0x0C, 0, 1, 0, 9]),
+            ["a PUT of 1 that reads its cell"]
+        );
+        assert_eq!(of_puts([0x0C, 1, 1, 9, 9]), [""; 0]);
+        let longer = "a PUT of 2 to 255 over a live cell";
+        assert_eq!(
+            of_puts([0x0C, 0, 2, 9, 9]),
+            ["a PUT of 2 over a live cell", longer]
+        );
+        assert_eq!(
+            of_puts([0x0C, 0, 255, 9, 9]),
+            ["a PUT of 255 over a live cell", longer]
+        );
+        assert_eq!(of_puts([0x0C, 0, 3, 9, 9]), [longer]);
+        assert_eq!(of_puts([0x0C, 1, 2, 9, 9]), [""; 0]);
     }
 
     #[test]

@@ -283,6 +283,26 @@ pub fn woven(rng: &mut Rng) -> Draft {
     draft.finish(rng)
 }
 
+/// An accepted plan of up to 24 commands, many of them PUT to a table of 1, of 2 or of 255 cells.
+pub fn putting(rng: &mut Rng) -> Draft {
+    let cells = rng.pick(&[255, 256]);
+    let mut draft = Draft::woven(rng, cells);
+    let one = rng.pick(&draft.named);
+    let two = edge(rng, cells - 1);
+    let longest = rng.below(cells - 254) as u8;
+    draft.tables = vec![[one, 1], [two, 2], [longest, 255]];
+    let commands = [
+        PUT, PUT, PUT, EMIT, EMIT, COPY, GET, LESS, EXCLUDE, CHECKPOINT,
+    ];
+    for _ in 0..rng.below(24) {
+        let command = rng.pick(&commands);
+        draft.push(rng, command);
+    }
+    let last = rng.pick(&[END, JUMP]);
+    draft.push(rng, last);
+    draft.finish(rng)
+}
+
 /// An accepted plan of 2 to 12 blocks in reverse order, woven. The first command jumps to the last
 /// block, and each block to the one before it; the first ends or jumps anywhere.
 pub fn reversed(rng: &mut Rng) -> Draft {

@@ -6,7 +6,7 @@ use differential::analyse_null;
 use differential::buffer::Buffer;
 use differential::examples::{programs, SMALL};
 use differential::features::features;
-use differential::plans::{self, linked, plan, Draft, COMMANDS};
+use differential::plans::{self, linked, plan, COMMANDS};
 use differential::rng::Rng;
 use reference::Analysis;
 
@@ -18,7 +18,7 @@ const SETS: usize = 4_096;
 type Answer = Result<Analysis, u32>;
 
 /// One of the functions that make random plans.
-type Maker = fn(&mut Rng) -> Draft;
+type Maker = fn(&mut Rng) -> Vec<u8>;
 
 /// Asserts that the library does with these buffers what the reference says of the plan, and gives
 /// the result.
@@ -253,6 +253,69 @@ fn tables_from_and_to_every_edge_of_a_word() {
     }
 }
 
+/// All of 256 cells but these.
+fn all_but(cells: impl IntoIterator<Item = u8>) -> [u64; 4] {
+    let mut words = [u64::MAX; 4];
+    for cell in cells {
+        words[usize::from(cell / 64)] &= !(1 << (cell % 64));
+    }
+    words
+}
+
+/// The plan of 256 cells of EXCLUDE, CHECKPOINT, PUT, GET that reads all cells but the last, END; and what the library
+/// says of it: dead before the PUT, DE and RO.
+#[track_caller]
+fn put_before_get(base: u8, len: u8, i: u8, a: u8) -> [[u64; 4]; 3] {
+    let put: &[u8] = &[0x0C, base, len, i, a];
+    let plan = plan(256, &[&[0x0D, 0x0E], put, &[0x0B, 255, 0, 255, 0, 0x01]]);
+    accepted(&plan);
+    let (dead, de_and_ro) = sets(&plan, 5, 1);
+    assert_eq!(dead[1], dead[2], "CHECKPOINT goes on to the PUT");
+    [dead[2], de_and_ro[0], de_and_ro[1]]
+}
+
+/// Behind the PUT all cells but 255 are live, so that before it one more is dead where it is surely written.
+#[test]
+fn a_put_surely_writes_a_table_of_one_cell_alone() {
+    for base in 0..255 {
+        // Index and value are another cell, and then the cell itself.
+        let other = if base == 7 { 8 } else { 7 };
+        let before = all_but((0..255).filter(|&cell| cell != base));
+        let written = all_but([base, 255]);
+        let one = put_before_get(base, 1, other, other);
+        assert_eq!(one, [before, before, written], "cell {base}");
+        for (i, a) in [(base, other), (other, base), (base, base)] {
+            let none = all_but(0..255);
+            let itself = put_before_get(base, 1, i, a);
+            assert_eq!(
+                itself,
+                [none, none, written],
+                "cell {base}, index {i}, value {a}"
+            );
+        }
+    }
+    // The last cell is dead behind the PUT, and before it too.
+    let none = all_but(0..255);
+    assert_eq!(put_before_get(255, 1, 7, 7), [none, none, all_but([255])]);
+}
+
+#[test]
+fn a_put_surely_writes_no_cell_of_a_longer_table() {
+    let none = all_but(0..255);
+    let tables = (0..=253)
+        .map(|base| (base, 2))
+        .chain([(0, 3), (62, 4), (1, 254), (0, 255)]);
+    for (base, len) in tables {
+        let last = base + (len - 1);
+        let written = all_but((base..=last).chain([255]));
+        let answer = put_before_get(base, len, 7, 8);
+        assert_eq!(answer, [none, none, written], "{len} cells from {base}");
+    }
+    // To the last cell, which GET writes without reading it.
+    let written = all_but(1..=255);
+    assert_eq!(put_before_get(1, 255, 7, 8), [none, none, written]);
+}
+
 /// JUMP to the last of the chain, EMIT 64, END, the chain, END. Of the chain each command, t added,
 /// jumps to the one before it, and the first to EMIT.
 fn chain(command: &[u8], length: usize) -> Vec<u8> {
@@ -280,17 +343,19 @@ fn the_longest_chains_of_jumps_backward() {
     assert_eq!(sets(&branches, 1, 0).0, [[u64::MAX - 1, 0, 0, 0]]);
 }
 
-#[test]
-fn every_plan_of_four_of_some_commands() {
+/// Every plan of four of some commands, PUT with this len among them. Gives how many there are.
+#[track_caller]
+fn every_plan_of_four(len: u8) -> u32 {
+    let put = [0x0C, 0, len, 1, 1];
     let mut commands: Vec<(&[u8], Option<usize>)> = vec![
-        (&[0x01], None),             // END
-        (&[0x07, 0], None),          // READ 0
-        (&[0x07, 1], None),          // READ 1
-        (&[0x08, 0], None),          // EMIT 0
-        (&[0x08, 1], None),          // EMIT 1
-        (&[0x0C, 0, 1, 1, 1], None), // PUT to cell 0 alone
-        (&[0x0D], None),             // EXCLUDE
-        (&[0x0E], None),             // CHECKPOINT
+        (&[0x01], None),    // END
+        (&[0x07, 0], None), // READ 0
+        (&[0x07, 1], None), // READ 1
+        (&[0x08, 0], None), // EMIT 0
+        (&[0x08, 1], None), // EMIT 1
+        (&put, None),       // PUT to cell 0 alone, or to both
+        (&[0x0D], None),    // EXCLUDE
+        (&[0x0E], None),    // CHECKPOINT
     ];
     for place in 0..4 {
         commands.push((&[0x09], Some(place))); // JUMP
@@ -304,7 +369,14 @@ fn every_plan_of_four_of_some_commands() {
             plans += 1;
         }
     }
-    assert_eq!(plans, 16 * 16 * 16 * 5);
+    plans
+}
+
+#[test]
+fn every_plan_of_four_of_some_commands() {
+    for len in [1, 2] {
+        assert_eq!(every_plan_of_four(len), 16 * 16 * 16 * 5);
+    }
 }
 
 /// A length of at least `least` bytes, or one below.
@@ -339,10 +411,10 @@ fn agreed_at_random(rng: &mut Rng, plan: &[u8], answer: &Answer, enough: [bool; 
     agreed(plan, answer, dead, sets)
 }
 
-/// A draft that check accepts, or one that it refuses.
-fn draft(rng: &mut Rng, make: Maker, accepted: bool) -> Vec<u8> {
+/// A plan that check accepts, or one that it refuses.
+fn drawn(rng: &mut Rng, make: Maker, accepted: bool) -> Vec<u8> {
     loop {
-        let plan = make(rng).bytes;
+        let plan = make(rng);
         if reference::check(&plan).is_ok() == accepted {
             return plan;
         }
@@ -351,65 +423,74 @@ fn draft(rng: &mut Rng, make: Maker, accepted: bool) -> Vec<u8> {
 
 /// How many of the random plans below have each feature. When the generators change, the new
 /// numbers are those that the test prints; none may be under 100.
-const FEATURES: [(&str, u32); 37] = [
+const FEATURES: [(&str, u32); 43] = [
     ("1 cell", 5_017),
-    ("63 cells", 485),
-    ("64 cells", 449),
-    ("65 cells", 475),
+    ("63 cells", 497),
+    ("64 cells", 455),
+    ("65 cells", 485),
     ("127 cells", 474),
-    ("128 cells", 489),
-    ("129 cells", 473),
+    ("128 cells", 502),
+    ("129 cells", 481),
     ("191 cells", 489),
-    ("192 cells", 471),
-    ("193 cells", 470),
-    ("255 cells", 466),
-    ("256 cells", 3_012),
-    ("both dead and live in word 0", 38_085),
-    ("both dead and live in word 1", 8_067),
-    ("both dead and live in word 2", 5_787),
-    ("both dead and live in word 3", 3_524),
+    ("192 cells", 484),
+    ("193 cells", 479),
+    ("255 cells", 1_436),
+    ("256 cells", 4_051),
+    ("both dead and live in word 0", 41_161),
+    ("both dead and live in word 1", 9_115),
+    ("both dead and live in word 2", 6_786),
+    ("both dead and live in word 3", 4_584),
     ("300 commands", 500),
     ("a command out of reach", 20_181),
-    ("a read of what is written", 34_722),
-    ("a GET that makes live", 9_259),
-    ("a PUT over a live cell", 6_145),
-    ("a JUMP to itself", 5_362),
-    ("a LESS to itself", 3_698),
-    ("a LESS forward", 17_215),
-    ("a LESS backward", 15_604),
-    ("a LESS of two ways", 937),
-    ("a value over 4 JUMPs backward", 4_553),
-    ("2 EXCLUDEs, 2 CHECKPOINTs", 8_085),
-    ("a region without CHECKPOINT", 18_327),
-    ("a region of unlike CHECKPOINTs", 298),
-    ("a region of an EXCLUDE alone", 5_689),
-    ("a DE that changes past EXCLUDE", 4_743),
-    ("an RO that changes past EXCLUDE", 7_963),
-    ("a cell in DE and RO", 11_230),
-    ("a cell in DE alone", 5_665),
-    ("a cell in RO alone", 19_859),
-    ("a cell in neither", 19_139),
+    ("a read of what is written", 39_960),
+    ("a GET that makes live", 11_190),
+    ("a JUMP to itself", 5_535),
+    ("a LESS to itself", 3_929),
+    ("a LESS forward", 19_240),
+    ("a LESS backward", 17_804),
+    ("a LESS of two ways", 1_495),
+    ("a value over 4 JUMPs backward", 4_343),
+    ("a PUT of 1 that makes dead", 4_038),
+    ("a PUT of 1 that reads its cell", 11_130),
+    ("a PUT of 2 over a live cell", 2_430),
+    ("a PUT of 255 over a live cell", 1_002),
+    ("a PUT of 2 to 255 over a live cell", 6_617),
+    ("dead sets that grew with Q-3", 4_038),
+    ("a DE that grew with Q-3", 1_210),
+    ("2 EXCLUDEs, 2 CHECKPOINTs", 10_051),
+    ("a region without CHECKPOINT", 20_082),
+    ("a region of unlike CHECKPOINTs", 631),
+    ("a region of an EXCLUDE alone", 6_243),
+    ("a DE that changes past EXCLUDE", 6_500),
+    ("an RO that changes past EXCLUDE", 9_977),
+    ("a cell in DE and RO", 13_301),
+    ("a cell in DE alone", 7_844),
+    ("a cell in RO alone", 22_594),
+    ("a cell in neither", 22_041),
 ];
 
 #[test]
 fn random_plans() {
     let mut rng = Rng::new(0x0123_4567_89AB_CDEF);
-    let makers: [(Maker, u32); 6] = [
-        (plans::woven, 29_500),
-        (plans::reversed, 10_000),
-        (plans::valid, 10_000),
-        (plans::large, 300),
-        (plans::crowded, 180),
-        (plans::long, 20),
+    let makers: [(Maker, u32); 8] = [
+        (|rng| plans::woven(rng).bytes, 29_500),
+        (|rng| plans::reversed(rng).bytes, 10_000),
+        (|rng| plans::valid(rng).bytes, 10_000),
+        (|rng| plans::large(rng).bytes, 300),
+        (|rng| plans::crowded(rng).bytes, 180),
+        (|rng| plans::long(rng).bytes, 20),
+        (|rng| plans::putting(rng).bytes, 2_000),
+        (claim::plans::set_points, 2_000),
     ];
-    assert_eq!(makers.map(|(_, plans)| plans).iter().sum::<u32>(), 50_000);
+    assert_eq!(makers.map(|(_, plans)| plans).iter().sum::<u32>(), 54_000);
     let mut counts = FEATURES.map(|(name, _)| (name, 0));
     for (make, plans) in makers {
         for _ in 0..plans {
-            let plan = draft(&mut rng, make, true);
+            let plan = drawn(&mut rng, make, true);
             let answer = reference::analyse(&plan);
             assert_eq!(agreed_at_random(&mut rng, &plan, &answer, [true, true]), 0);
             let features = features(&plan, &answer.unwrap());
+            assert_eq!(features.len(), counts.len());
             for (count, (name, has)) in counts.iter_mut().zip(features) {
                 *count = (name, count.1 + u32::from(has));
             }
@@ -436,8 +517,8 @@ fn random_plans_in_long_and_short_buffers() {
         plans.push(plans::mutated(&mut rng));
     }
     for _ in 0..200 {
-        plans.push(draft(&mut rng, plans::crowded, false));
-        plans.push(draft(&mut rng, plans::long, false));
+        plans.push(drawn(&mut rng, |rng| plans::crowded(rng).bytes, false));
+        plans.push(drawn(&mut rng, |rng| plans::long(rng).bytes, false));
     }
     let mut hits = [0; 9];
     for plan in plans {

@@ -1,39 +1,55 @@
-//! Document 01's demand 3 on the library, through C, over random lists of calls for either kind of chip; and that the
-//! same lists find altered engines, so that the watch over this library is seen to be awake. `CLAIM_LISTS` sets how many
-//! lists of each kind there are.
+//! Document 01's demand 3 on the library, through C, over random lists of calls for either kind of chip, and over lists
+//! that go over the two days of document 02's request Q-3; and that the same lists find altered engines, so that the
+//! watch over this library is seen to be awake. `CLAIM_LISTS` sets how many lists of each kind there are.
 
 use std::env;
 
 use claim::altered::{Alter, Altered};
-use claim::{watch_list, watch_lists, Engine, Met};
+use claim::{watch_list, watch_lists, Days, Engine, Met};
 use differential::call::Library;
 use reference::journal::{BYTE_CHIP, PAGE_CHIP};
 
 /// The lists for the library and each kind of chip, unless `CLAIM_LISTS` says another number.
 const LISTS: u64 = 100_000;
 
+/// One list over two days for so many of one day.
+const OF_ONE_DAY: u64 = 10;
+
 const KINDS: [usize; 2] = [BYTE_CHIP, PAGE_CHIP];
 
 /// The lists within which an altered engine must be caught.
 const FEW: u64 = 300;
 
+/// The same for lists over two days.
+const FEW_OVER_TWO_DAYS: u64 = 1_000;
+
+fn lists() -> u64 {
+    env::var("CLAIM_LISTS").map_or(LISTS, |number| number.parse().unwrap())
+}
+
 #[track_caller]
-fn keeps_the_claim(engine: &(impl Engine + Sync), lists: u64) {
+fn keeps_the_claim(engine: &(impl Engine + Sync), days: Days, lists: u64) {
     for page in KINDS {
         let mut met = Met::default();
-        if let Err((seed, violation)) = watch_lists(engine, page, 0..lists, &mut met) {
-            panic!("pages of {page}, seed {seed}: {violation}");
+        if let Err((seed, violation)) = watch_lists(engine, days, page, 0..lists, &mut met) {
+            panic!("{days:?}, pages of {page}, seed {seed}: {violation}");
         }
-        println!("Lists for chips with pages of {page}:");
+        println!("Lists of {days:?} for chips with pages of {page}:");
         print!("{met}");
-        met.assert_floors(page);
+        met.assert_floors(days, page);
     }
 }
 
 #[test]
 fn the_library_keeps_the_claim() {
-    let lists = env::var("CLAIM_LISTS").map_or(LISTS, |number| number.parse().unwrap());
-    keeps_the_claim(&Library, lists);
+    keeps_the_claim(&Library, Days::Today, lists());
+}
+
+#[test]
+fn lists_over_two_days_keep_the_claim() {
+    for days in [Days::Change, Days::Either] {
+        keeps_the_claim(&Library, days, lists() / OF_ONE_DAY);
+    }
 }
 
 fn altered(alter: Alter) -> Altered<Library> {
@@ -45,19 +61,26 @@ fn altered(alter: Alter) -> Altered<Library> {
 
 #[test]
 fn the_wrapper_alone_keeps_the_claim() {
-    keeps_the_claim(&altered(Alter::Nothing), FEW);
+    for days in [Days::Today, Days::Change, Days::Either] {
+        keeps_the_claim(&altered(Alter::Nothing), days, FEW);
+    }
 }
 
-/// Asserts that the lists for chips of a page length find the alteration.
-fn caught(alter: Alter, page: usize) {
+/// Asserts that the lists of these days for chips of a page length find the alteration.
+#[track_caller]
+fn caught(alter: Alter, days: Days, page: usize) {
     let engine = altered(alter);
-    let found = (0..FEW).find_map(|seed| {
-        let violation = watch_list(&engine, page, seed, &mut Met::default()).err()?;
+    let few = match days {
+        Days::Today => FEW,
+        Days::Change | Days::Either => FEW_OVER_TWO_DAYS,
+    };
+    let found = (0..few).find_map(|seed| {
+        let violation = watch_list(&engine, days, page, seed, &mut Met::default()).err()?;
         Some((seed, violation))
     });
     let (seed, violation) =
-        found.unwrap_or_else(|| panic!("{alter:?}, pages of {page}, is not caught"));
-    println!("{alter:?}, pages of {page}, seed {seed}: {violation}");
+        found.unwrap_or_else(|| panic!("{alter:?}, {days:?}, pages of {page}, is not caught"));
+    println!("{alter:?}, {days:?}, pages of {page}, seed {seed}: {violation}");
 }
 
 #[test]
@@ -66,6 +89,8 @@ fn alterations_are_caught() {
         Alter::DeadStaysDead,
         Alter::KeptByPassedOver,
         Alter::SurePut,
+        Alter::SurePutOfTwo,
+        Alter::SurePutBeside,
         Alter::EraseUpward,
         Alter::WholeBefore5A,
         Alter::CountedBeforeGiven,
@@ -76,7 +101,7 @@ fn alterations_are_caught() {
         Alter::InventsAStep,
     ] {
         for page in KINDS {
-            caught(alter, page);
+            caught(alter, Days::Today, page);
         }
     }
     for alter in [
@@ -85,6 +110,22 @@ fn alterations_are_caught() {
         Alter::GoesOnBehindMark,
         Alter::GoesOnPageLater,
     ] {
-        caught(alter, PAGE_CHIP);
+        caught(alter, Days::Today, PAGE_CHIP);
+    }
+}
+
+#[test]
+fn alterations_are_caught_over_two_days() {
+    for alter in [
+        Alter::SurePut,
+        Alter::SurePutOfTwo,
+        Alter::SurePutBeside,
+        Alter::LeavesTorn,
+        Alter::RefusesDeadCells,
+    ] {
+        for page in KINDS {
+            caught(alter, Days::Change, page);
+            caught(alter, Days::Either, page);
+        }
     }
 }

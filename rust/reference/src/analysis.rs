@@ -47,7 +47,14 @@ pub fn analyse(plan: &[u8]) -> Result<Analysis, u32> {
     analyse_with(plan, Instruction::must_write)
 }
 
-/// As `analyse`, where another rule says which cells a command must write: tests try a wrong rule.
+/// The sets that the analysis found until Q-3, under which chips were saved that are recovered under
+/// those of `analyse`.
+pub fn analyse_until(plan: &[u8]) -> Result<Analysis, u32> {
+    analyse_with(plan, Instruction::must_write_until)
+}
+
+/// As `analyse`, where another rule says which cells a command must write: the rule until Q-3, or a
+/// wrong one that tests try.
 pub fn analyse_with(plan: &[u8], must_write: fn(Instruction, u8) -> bool) -> Result<Analysis, u32> {
     let checked = check(plan)?;
     let flow = Flow::new(instructions(plan, checked.cells as usize)?, must_write);
@@ -278,15 +285,55 @@ mod tests {
 
     #[test]
     fn a_table_write_is_no_sure_write() {
-        // PUT cell 0 alone, index and value 2.
-        let put: &[u8] = &[0x0C, 0, 1, 2, 2];
-        let sets = dead(3, &[put, EMIT_0, END]);
-        assert_eq!(sets, [set([1]), set([1, 2]), set([0, 1, 2])]);
-        assert_eq!(dead(3, &[SET_0, EMIT_0, END])[0], set([0, 1, 2]));
-        // But it may write the whole table: cells 0 and 1.
+        // PUT to cells 0 and 1, index and value 2.
         let put: &[u8] = &[0x0C, 0, 2, 2, 2];
+        let sets = dead(3, &[put, EMIT_0, EMIT_1, END]);
+        assert_eq!(sets, [set([]), set([2]), set([0, 2]), set([0, 1, 2])]);
+        assert_eq!(dead(3, &[SET_0, EMIT_0, END])[0], set([0, 1, 2]));
+        // But it may write the whole table.
         let sets = excludes(3, &[EXCLUDE, put, CHECKPOINT, EMIT_0, END]);
         assert_eq!(sets, [(1, set([1, 2]), set([2]))]);
+        // PUT to all cells but the last, which is index and value.
+        let put: &[u8] = &[0x0C, 0, 255, 255, 255];
+        for cell in [0, 1, 128, 254] {
+            let sets = dead(256, &[put, &[0x08, cell], END]);
+            let others: Set = (0..255).filter(|&other| other != cell).collect();
+            assert_eq!(sets[0], others, "EMIT {cell}");
+        }
+    }
+
+    #[test]
+    fn a_write_to_a_table_of_one_cell_is_a_sure_write() {
+        // PUT to cell 0 alone, index and value 2.
+        let put: &[u8] = &[0x0C, 0, 1, 2, 2];
+        let sets = dead(3, &[put, EMIT_0, END]);
+        assert_eq!(sets, [set([0, 1]), set([1, 2]), set([0, 1, 2])]);
+        // The cell beside it is not written, and one that is read first is live all the same.
+        assert_eq!(dead(3, &[put, EMIT_1, END])[0], set([0]));
+        assert_eq!(dead(3, &[EMIT_0, put, END])[0], set([1]));
+        // It may write its cell as before, so that is not in RO.
+        let instructions = [EXCLUDE, CHECKPOINT, put, EMIT_0, END];
+        let sets = excludes(3, &instructions);
+        assert_eq!(sets, [(1, set([0, 1]), set([1, 2]))]);
+        let until = analyse_until(&plan(3, &instructions)).unwrap();
+        assert_eq!(until.excludes, [(1, set([1]), set([1, 2]))]);
+        // The last cell of all.
+        let put: &[u8] = &[0x0C, 255, 1, 0, 0];
+        assert_eq!(dead(256, &[put, &[0x08, 255], END])[0], set(1..=255));
+    }
+
+    #[test]
+    fn a_put_of_one_cell_reads_before_it_writes() {
+        // PUT to cell 0 alone, which is the index, the value or both; the other is cell 1.
+        for (i, a, others) in [(0, 1, set([2])), (1, 0, set([2])), (0, 0, set([1, 2]))] {
+            let put: &[u8] = &[0x0C, 0, 1, i, a];
+            assert_eq!(dead(3, &[put, END])[0], others, "index {i}, value {a}");
+            assert_eq!(
+                dead(3, &[put, EMIT_0, END])[0],
+                others,
+                "index {i}, value {a}"
+            );
+        }
     }
 
     #[test]

@@ -13,7 +13,7 @@ mod recovery;
 pub mod refusal;
 pub mod uncut;
 
-pub use analysis::{analyse, Analysis, Set};
+pub use analysis::{analyse, analyse_until, Analysis, Set};
 pub use check::{check, Checked};
 pub use listing::listing;
 pub use machine::Machine;

@@ -206,9 +206,19 @@ impl Instruction {
         }
     }
 
-    /// "What a command may write it must write, except that PUT must write nothing." So DIV and READ
-    /// must write d although they may stop instead.
+    /// Document 01: "What a command may write it must write, except that PUT must write nothing." So
+    /// DIV and READ must write d although they may stop instead. Document 02, Q-3: "A PUT with len 1
+    /// must write its base; longer tables remain as 01 has them."
     pub fn must_write(self, cell: u8) -> bool {
+        match self {
+            Instruction::Put { table, .. } => table.len == 1 && cell == table.base,
+            _ => self.may_write(cell),
+        }
+    }
+
+    /// Document 01's rule as it stood until Q-3: "What a command may write it must write, except that
+    /// PUT must write nothing."
+    pub fn must_write_until(self, cell: u8) -> bool {
         !matches!(self, Instruction::Put { .. }) && self.may_write(cell)
     }
 }
@@ -395,6 +405,46 @@ mod tests {
                 (vec![], vec![], vec![]),              // CHECKPOINT
             ]
         );
+    }
+
+    #[test]
+    fn a_put_must_write_a_table_of_one_cell_alone() {
+        for (base, len) in [
+            (0, 1),
+            (7, 1),
+            (255, 1),
+            (0, 2),
+            (254, 2),
+            (0, 255),
+            (1, 255),
+        ] {
+            let table = Table { base, len };
+            let put = Instruction::Put { table, i: 3, a: 4 };
+            for cell in 0..=u8::MAX {
+                let is_one_cell = len == 1 && cell == base;
+                assert_eq!(put.must_write(cell), is_one_cell, "{table:?} {cell}");
+                assert!(!put.must_write_until(cell), "{table:?} {cell}");
+                assert_eq!(put.may_write(cell), table.contains(cell));
+            }
+        }
+    }
+
+    #[test]
+    fn only_a_put_is_under_another_rule_than_until() {
+        for (_, instruction) in one_of_each() {
+            for cell in 0..=u8::MAX {
+                let until = instruction.must_write_until(cell);
+                assert_eq!(
+                    instruction.must_write(cell),
+                    until,
+                    "{instruction:?} {cell}"
+                );
+            }
+        }
+        // A GET of one cell reads its table and writes d alone.
+        let table = Table { base: 7, len: 1 };
+        let get = Instruction::Get { d: 3, table, i: 4 };
+        assert!(get.must_write(3) && !get.must_write(7) && !get.must_write(4));
     }
 
     #[test]

@@ -4,8 +4,8 @@
 //! Figures 3(d) and 5(d) name the arrays only. In a plan the loop counters, the values in between
 //! and the constants are cells too, and stand in the sets where they belong.
 
-use reference::program::Instruction;
-use reference::{analyse, check, listing, Checked, Set};
+use reference::program::{Instruction, FIRST_INSTRUCTION};
+use reference::{analyse, analyse_until, check, listing, Checked, Set};
 
 /// The bytes of a plan written as text. A line is hexadecimal bytes, then `#`, their offset, `:`
 /// and what they mean: first byte 0, then a command to a line. Lines without bytes are comment.
@@ -57,8 +57,8 @@ fn cell() {
     let plan = plan(include_str!("../../../examples/cell.hex"));
     assert_eq!(check(&plan), accepted(55, 78, 1));
     // R, C and the values in between. R and C are dead in the paper's appendix too. The interior of
-    // G1 is not: S5 writes it by PUT, which by document 01 must write nothing, so a path leads
-    // from the CHECKPOINT to S10's GET with no sure write. Its four cells are saved each time,
+    // G1 is not: S5 writes it by PUTs to tables of two cells, which must write nothing, so a path
+    // leads from the CHECKPOINT to S10's GET with no sure write. Its four cells are saved each time,
     // which costs space, not correctness.
     let de = Set::from([0x2A, 0x2B, 0x2C, 0x2D, 0x2E, 0x2F, 0x30]);
     let ro = Set::from([
@@ -133,4 +133,40 @@ fn contour() {
             (182, de, ro),
         ]
     );
+}
+
+/// The len of each PUT of a plan.
+fn puts(plan: &[u8]) -> Vec<u8> {
+    let mut lengths = Vec::new();
+    let mut offset = FIRST_INSTRUCTION;
+    while offset < plan.len() {
+        let (instruction, length) = Instruction::decode(&plan[offset..]).unwrap();
+        if let Instruction::Put { table, .. } = instruction {
+            lengths.push(table.len);
+        }
+        offset += length;
+    }
+    lengths
+}
+
+/// None of these plans has a PUT with len 1, so request Q-3 changes none of their sets or saves.
+#[test]
+fn the_sets_are_those_found_until_q_3() {
+    let small = include_bytes!("../../../examples/small.plan").to_vec();
+    for (plan, lengths) in [
+        (small, vec![]),
+        (
+            plan(include_str!("../../../examples/cell.hex")),
+            vec![16, 16, 2, 2, 2, 2],
+        ),
+        (plan(include_str!("../../../examples/sieve.hex")), vec![15]),
+        (
+            plan(include_str!("../../../examples/contour.hex")),
+            vec![25, 25],
+        ),
+        (plan(include_str!("../../../examples/mean.hex")), vec![8]),
+    ] {
+        assert_eq!(puts(&plan), lengths);
+        assert_eq!(analyse(&plan), analyse_until(&plan));
+    }
 }
