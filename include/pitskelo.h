@@ -24,11 +24,13 @@
  *      on a page chip also where its write position, its count of bytes to erase or its count of
  *      bytes stored of a save is not divisible by 16
  *   11 the chip is over 65,536 bytes; for a page chip also where its length is not divisible by 16
- *   12 the chip is damaged: what follows its whole saves is neither erased nor begins a save; for a
- *      page chip also where a page of a whole save is filled with other bytes than FF
+ *   12 the chip that is read is damaged: what follows its whole saves is neither erased nor begins
+ *      a save; for a page chip also where a page of a whole save is filled with other bytes than FF
+ *   13 the new chip of a fold is other than that many bytes of the save and then FF
+ *   14 the save of a fold is longer than the new chip
  *
- * Several may hold at once. 1 is tried first, then 2 to 5 command by command, then 6 to 12 in this
- * order.
+ * Several may hold at once. 1 is tried first, then 2 to 5 command by command, then 6 to 14 in this
+ * order. 12 is given by recoveries and folds, 13 and 14 by folds alone.
  *
  * docs/C-API.md says what a host does with these calls, and in which order.
  */
@@ -154,6 +156,28 @@ uint32_t pitskelo_page_run(const uint8_t *plan, size_t plan_len,
                            uint8_t *outputs, size_t outputs_len,
                            uint64_t budget,
                            uint32_t *ended, uint64_t *steps, uint64_t *taken, uint64_t *given);
+
+/*
+ * Folds an old byte chip onto a new one, which is blank (all FF) at first: the new chip gets one
+ * save, with every cell whose recovered value is not 0, by rising number, and the last save's place
+ * and counts. A chip without a whole save leaves the new one blank. Result: 0, or 1 to 9, 11 to 14;
+ * 11 covers both chips, 12 the old one.
+ *
+ * stored is the number of bytes of the save that stand on the new chip, at first 0. The call stores
+ * the next ones upward, at most budget. now_stored gets the new number, and finished 1 where the
+ * whole save stands there, else 0. Of sets only the length is tested, and the old chip is only
+ * read.
+ *
+ * After a cut a host that has lost the number takes the length of the new chip without the FF bytes
+ * at its end. Recovery finds the same state on a finished chip as on the old one, but for
+ * PITSKELO_STATE_WRITE and PITSKELO_STATE_ERASE.
+ */
+uint32_t pitskelo_fold(const uint8_t *plan, size_t plan_len,
+                       const uint8_t *sets, size_t sets_len,
+                       const uint8_t *old_chip, size_t old_len,
+                       uint8_t *new_chip, size_t new_len,
+                       uint64_t stored, uint64_t budget,
+                       uint64_t *now_stored, uint32_t *finished);
 
 #ifdef __cplusplus
 }

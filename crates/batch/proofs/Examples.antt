@@ -185,7 +185,7 @@ unfoldable pub newDone : System
 newDone = ran setPoint setPointReadings newBegun (request (trialWith newSets 1000))
 
 -- the torn bytes do not end in FF
-torn-trimmed : Trimmed (take 10 (image (saveBoth 7 5 2 1)))
+pub torn-trimmed : Trimmed (take 10 (image (saveBoth 7 5 2 1)))
 unfolding computing
 torn-trimmed = trimmed-snoc (take 9 (image (saveBoth 7 5 2 1))) 0 (λ e. omega arith)
 

@@ -1,15 +1,14 @@
--- A list can go on with the chip that another one left: the chip can be taken up at the tally of its last final byte (`left-taken`), and a list that begins with it has demand 3
--- (`taken-claim`).
+-- A list can go on with the chip that another one left: the chip can be taken up at the tally of its last final byte (`left-taken`). A list under some sets is one under more
+-- (`widens`).
 -- Assumes nothing.
 use Prim.Native.Nat.{ℕ}
 use mathlib.Core.Path.{_≡_, sym, subst}
 use mathlib.Core.List.{List}
 use lib.IntN.{ℤ}
 use Rattle.restart.specs.Reference.{Frame, refAt}
-use Rattle.restart.specs.History.{System, History}
-use Rattle.restart.specs.Claim.{Plan, Safe, TakenUp, Claim}
-use Rattle.restart.proofs.Upheld.{Lasting, Upheld}
-use Rattle.restart.proofs.Theorem.{upheld, claim}
+use Rattle.restart.specs.History.{System, History, begins, refused-recovery, refused-run, recovers, crashes, runs, crashed-run}
+use Rattle.restart.specs.Claim.{TakenUp}
+use Rattle.restart.proofs.Upheld.{Lasting}
 
 module _ {p : List ℕ} {ρ : List ℤ} {f₀ : Frame} {page n t₀ : ℕ} {s : System} where
   -- the chip of any system that a list reaches
@@ -21,12 +20,13 @@ pub takes-up : (p : List ℕ) (ρ : List ℤ) (f₀ : Frame) (page t₀ : ℕ) (
     → (l : List ℕ) → l ≡ chip → TakenUp page p (refAt p ρ f₀ t₀) l
 takes-up p ρ f₀ page t₀ chip taken l e = subst (TakenUp page p (refAt p ρ f₀ t₀)) (sym e) taken
 
-module _ (p : List ℕ) (ρ : List ℤ) (f₀ : Frame) (plan : Plan p) (page n t₀ : ℕ) (chip : List ℕ) (Words : List ℕ → Type 0) (safe : (w : List ℕ) → Words w → Safe p w)
-    (taken : TakenUp page p (refAt p ρ f₀ t₀) chip) where
-  -- its invariant
-  pub taken-upheld : {s : System} → History p ρ page n t₀ (λ l. l ≡ chip) Words s → Upheld p ρ f₀ page n t₀ s
-  taken-upheld h = upheld p ρ f₀ plan page n t₀ (λ l. l ≡ chip) Words (takes-up p ρ f₀ page t₀ chip taken) safe h
-
-  -- and its claim
-  pub taken-claim : {s : System} → History p ρ page n t₀ (λ l. l ≡ chip) Words s → Claim p ρ f₀ n t₀ Words page s
-  taken-claim h = claim p ρ f₀ plan page n t₀ (λ l. l ≡ chip) Words (takes-up p ρ f₀ page t₀ chip taken) safe h
+-- accepted calls that are lent such words are lent wider ones too
+pub widens : {p : List ℕ} {ρ : List ℤ} {page n t₀ : ℕ} {Begins Words Wider : List ℕ → Type 0} {s : System} → ((w : List ℕ) → Words w → Wider w)
+    → History p ρ page n t₀ Begins Words s → History p ρ page n t₀ Begins Wider s
+widens f (begins m size b) = begins m size b
+widens f (refused-recovery h e other l r x z) = refused-recovery (widens f h) e other l r x z
+widens f (refused-run h e l readings budget outs z) = refused-run (widens f h) e l readings budget outs z
+widens f (recovers h words w r x z) = recovers (widens f h) words (f words w) r x z
+widens f (crashes h m) = crashes (widens f h) m
+widens f (runs h good r w a) = runs (widens f h) good r (f (r .words) w) a
+widens f (crashed-run h good r w a m) = crashed-run (widens f h) good r (f (r .words) w) a m

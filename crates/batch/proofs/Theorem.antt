@@ -1,40 +1,46 @@
--- THE CLAIMS OF Q-3: `q-3` of a list that goes on with an old chip under today's sets, `q-3-any-time` of one list with sets of either day. Both for every page length.
+-- THE CLAIMS OF LISTS THAT FOLLOW ONE ANOTHER: `q-3` of a list that goes on with an old chip under today's sets, `q-3-any-time` of one list with sets of either day, `batches` of any
+-- number of lists with folding between them. These for every page length; `always-foldable` of byte chips.
 -- Assumes nothing.
-use Prim.Native.Nat.{ℕ, max}
-use mathlib.Core.Path.{_≡_, sym, _∙_, subst}
+use Prim.Native.Nat.{ℕ, _≤_, max}
+use mathlib.Core.Path.{_≡_, refl, sym, _∙_, subst}
 use mathlib.Core.List.{List, [], _++_}
 use native.Mathlib.Omega.{arith}
 use lib.IntN.{ℤ}
-use Rattle.restart.specs.Reference.{zeros, refAt, emitted}
+use lib.ListN.{length}
+use Rattle.restart.specs.Reference.{Numbered, zeros, refAt, gathered, emitted}
 use Rattle.restart.specs.History.{System, History}
-use Rattle.restart.specs.Claim.{Plan, Safe, Erased, distinct}
+use Rattle.restart.specs.Claim.{Plan, Safe, TakenUp, Erased, distinct}
 use Rattle.restart.proofs.Frames.{stopped-stays, emitted-stays}
 use Rattle.restart.proofs.Sets.{found-safe}
 use Rattle.restart.proofs.Upheld.{Lasting}
 use Rattle.restart.proofs.Theorem.{upheld, claim, erased-taken}
 use Rattle.batch.specs.Until.{EitherSets}
-use Rattle.batch.specs.Batch.{BatchClaim, Q3, Q3AnyTime}
+use Rattle.batch.specs.Batch.{BatchClaim, Q3, Q3AnyTime, Passed, Batch, begins, onward, Batches, AlwaysFoldable}
 use Rattle.batch.proofs.Growing.{until-safe, either-safe}
-use Rattle.batch.proofs.Taking.{left-taken, taken-upheld, taken-claim}
+use Rattle.batch.proofs.Taking.{left-taken, takes-up}
+use Rattle.batch.proofs.Folding.{passed-taken, taken-foldable}
 use Rattle.batch.proofs.Joining.{joined}
 
-module _ (p : List ℕ) (ρ : List ℤ) (plan : Plan p) (page n : ℕ) where
-  -- a list goes on with the chip that another one left, which began on an erased chip
-  pub goes-on : {s : System} → Lasting p ρ zeros page n 0 s → (Words : List ℕ → Type 0) → ((w : List ℕ) → Words w → Safe p w) → {s′ : System}
-      → History p ρ page n (s .tally .committed) (λ l. l ≡ s .machine .journal) Words s′
-      → BatchClaim p ρ page n (s .tally .committed) Words (s .outputs) (s .tally .highest) s′
-  goes-on {s} l Words safe {s′} h =
-      let t = s .tally .committed in
-      let top = max (s .tally .highest) (s′ .tally .highest) in
-      let up = left-taken l in
-      let m = taken-upheld p ρ zeros plan page n t (s .machine .journal) Words safe up h .lasting in
-      let both : distinct [] (s .outputs ++ s′ .outputs) ≡ emitted p ρ zeros 0 top =
-      joined p ρ zeros (s .outputs) (s′ .outputs) 0 t (s .tally .highest) (s′ .tally .highest) (l .outputs) (m .outputs) (omega arith) (l .high) (omega (arith, m .since, m .high)) in
+-- the lists before gave these outputs, up to the highest tally, and a list goes on at t with a chip that can be taken up there
+module _ (p : List ℕ) (ρ : List ℤ) (plan : Plan p) (page n t : ℕ) (Begins : List ℕ → Type 0) (takes : (l : List ℕ) → Begins l → TakenUp page p (refAt p ρ zeros t) l)
+    (Words : List ℕ → Type 0) (safe : (w : List ℕ) → Words w → Safe p w) where
+  pub lasts : {s : System} → History p ρ page n t Begins Words s → Lasting p ρ zeros page n t s
+  lasts h = upheld p ρ zeros plan page n t Begins Words takes safe h .lasting
+
+  pub goes-on : (outs : List Numbered) (high : ℕ) → distinct [] outs ≡ emitted p ρ zeros 0 high → t ≤ high → {s : System} → History p ρ page n t Begins Words s
+      → BatchClaim p ρ page n t Words outs high s
+  goes-on outs high so-far l {s} h =
+      let m = lasts h in
+      let top = max high (s .tally .highest) in
+      let both : distinct [] (outs ++ s .outputs) ≡ emitted p ρ zeros 0 top =
+      joined p ρ zeros outs (s .outputs) 0 t high (s .tally .highest) so-far (m .outputs) (omega arith) l (omega (arith, m .since, m .high)) in
       record {
-        claim = taken-claim p ρ zeros plan page n t (s .machine .journal) Words safe up h;
+        claim = claim p ρ zeros plan page n t Begins Words takes safe h;
         outputs = both;
         all = λ z k g. both ∙ sym (emitted-stays p ρ zeros 0 top k (omega arith) g (stopped-stays p ρ (refAt p ρ zeros top) z));
       }
+
+-- ---- Q-3
 
 pub q-3-any-time : (page : ℕ) → Q3AnyTime page
 q-3-any-time page p plan ρ n s h = claim p ρ zeros plan page n 0 (Erased n) (EitherSets p) (erased-taken p ρ page n) (either-safe plan) h
@@ -43,5 +49,60 @@ pub q-3 : (page : ℕ) → Q3 page
 q-3 page p plan ρ n old new until today s h s′ h′ =
     let so : (w : List ℕ) → w ≡ old → Safe p w = λ w e. subst (Safe p) (sym e) (until-safe plan until) in
     let sn : (w : List ℕ) → w ≡ new → Safe p w = λ w e. subst (Safe p) (sym e) (found-safe plan today) in
-    let l = upheld p ρ zeros plan page n 0 (Erased n) (λ w. w ≡ old) (erased-taken p ρ page n) so h .lasting in
-    goes-on p ρ plan page n l (λ w. w ≡ new) sn h′
+    let t = s .tally .committed in
+    let l = lasts p ρ plan page n 0 (Erased n) (erased-taken p ρ page n) (λ w. w ≡ old) so h in
+    let up = takes-up p ρ zeros page t (s .machine .journal) (left-taken l) in
+    goes-on p ρ plan page n t (λ l. l ≡ s .machine .journal) up (λ w. w ≡ new) sn (s .outputs) (s .tally .highest) (l .outputs) (l .high) h′
+
+-- ---- Q-6
+
+-- before the first list there is no output
+none-yet : (p : List ℕ) (ρ : List ℤ) → distinct [] [] ≡ emitted p ρ zeros 0 0
+unfolding distinct emitted gathered
+none-yet p ρ = refl
+
+module _ (p : List ℕ) (ρ : List ℤ) (plan : Plan p) (page : ℕ) (Words : List ℕ → Type 0) (safe : (w : List ℕ) → Words w → Safe p w) where
+  -- what the last list keeps, and the claim of them all
+  record Upheld (n t₀ : ℕ) (before : List Numbered) (high : ℕ) (s : System) : Type 0 where
+    pub lasting : Lasting p ρ zeros page n t₀ s
+    pub claimed : BatchClaim p ρ page n t₀ Words before high s
+
+  -- its chip, passed on, can be taken up
+  pub onward-takes : {n t₀ : ℕ} {s : System} → Lasting p ρ zeros page n t₀ s → (chip : List ℕ) → Passed page p (s .machine .journal) chip
+      → (l : List ℕ) → l ≡ chip → TakenUp page p (refAt p ρ zeros (s .tally .committed)) l
+  onward-takes {s = s} l chip g =
+      takes-up p ρ zeros page (s .tally .committed) chip (passed-taken plan (refAt p ρ zeros (s .tally .committed)) (left-taken l) g)
+
+  batch-upheld : {n t₀ high : ℕ} {before : List Numbered} {s : System} → Batch p ρ page Words n t₀ before high s → Upheld n t₀ before high s
+  batch-upheld (begins {n} {s} h) =
+      let takes = erased-taken p ρ page n in
+      record {
+        lasting = lasts p ρ plan page n 0 (Erased n) takes Words safe h;
+        claimed = goes-on p ρ plan page n 0 (Erased n) takes Words safe [] 0 (none-yet p ρ) (omega arith) h;
+      }
+  batch-upheld (onward {n} {t₀} {high} {before} {s} b chip g {s′} h) =
+      let u = batch-upheld b in
+      let t = s .tally .committed in
+      let takes = onward-takes (u .lasting) chip g in
+      record {
+        lasting = lasts p ρ plan page (length chip) t (λ l. l ≡ chip) takes Words safe h;
+        claimed =
+            goes-on p ρ plan page (length chip) t (λ l. l ≡ chip) takes Words safe (before ++ s .outputs) (max high (s .tally .highest)) (u .claimed .outputs)
+            (omega (arith, u .lasting .high)) h;
+      }
+
+  -- THE CLAIM HOLDS OF EVERY BATCH
+  pub batch-claim : {n t₀ high : ℕ} {before : List Numbered} {s : System} → Batch p ρ page Words n t₀ before high s → BatchClaim p ρ page n t₀ Words before high s
+  batch-claim b = batch-upheld b .claimed
+
+  -- and its chip lasts
+  pub batch-lasts : {n t₀ high : ℕ} {before : List Numbered} {s : System} → Batch p ρ page Words n t₀ before high s → Lasting p ρ zeros page n t₀ s
+  batch-lasts b = batch-upheld b .lasting
+
+pub batches : (page : ℕ) → Batches page
+batches page p plan ρ n t₀ high before s b = batch-claim p ρ plan page (EitherSets p) (either-safe plan) b
+
+pub always-foldable : AlwaysFoldable
+always-foldable p plan ρ n t₀ high before s b chip g =
+    let l = batch-lasts p ρ plan 1 (EitherSets p) (either-safe plan) b in
+    taken-foldable plan (passed-taken plan (refAt p ρ zeros (s .tally .committed)) (left-taken l) g)

@@ -1,12 +1,19 @@
--- Lists of calls that follow one another on one batch: a list goes on with the chip that the list before it left. Document 02, Q-3.
+-- Lists of calls that follow one another on one batch: a list goes on with the chip that the list before it left, as it is or folded. Document 02, Q-3 and Q-6.
 -- Assumes nothing.
 use Prim.Native.Nat.{ℕ, _≤_, max}
 use mathlib.Core.Path.{_≡_}
 use mathlib.Core.List.{List, [], _++_}
 use lib.IntN.{ℤ}
+use lib.ListN.{length}
 use Rattle.restart.specs.Reference.{Numbered, zeros, refAt, emitted}
 use Rattle.restart.specs.History.{System, History}
 use Rattle.restart.specs.Claim.{Plan, Erased, distinct, Found, Claim}
+use Rattle.journal.specs.declared.Commit.{Commit}
+use Rattle.journal.specs.Answer.{Taken}
+use Rattle.step.specs.State.{envOf}
+use Rattle.folding.specs.declared.Folded.the-variants.{Refused}
+use Rattle.folding.specs.Fold.{byteFacts, Outcome, Folds}
+use Rattle.folding.specs.Lists.{Finished}
 use Rattle.batch.specs.Until.{mustUntil, FoundBy, EitherSets}
 
 -- of a list that goes on at the tally t₀ with a chip that lists before it left, whose outputs were `before` and whose highest tally was `high`
@@ -32,3 +39,41 @@ Q3 page =
 abbrev pub Q3AnyTime : (page : ℕ) → Type 0
 Q3AnyTime page =
     (p : List ℕ) → Plan p → (ρ : List ℤ) (n : ℕ) (s : System) → History p ρ page n 0 (Erased n) (EitherSets p) s → Claim p ρ zeros n 0 (EitherSets p) page s
+
+-- ---- Q-6
+
+-- what is done with a chip between two lists: nothing, or it is folded onto another ("Both are byte chips"), as often as is wanted
+pub data Passed (page : ℕ) (p chip : List ℕ) : List ℕ → Type 0 where
+  as-left : Passed page p chip chip
+  folded : {l new : List ℕ} → Passed page p chip l → page ≡ 1 → Finished p l new → Passed page p chip new
+
+-- lists one after the other, of which the last has come to a system: n and t₀ are its chip's length and its tally at first, `before` the outputs of the lists before it and
+-- `high` their highest tally
+module _ (p : List ℕ) (ρ : List ℤ) (page : ℕ) (Words : List ℕ → Type 0) where
+  pub data Batch : (n t₀ : ℕ) (before : List Numbered) (high : ℕ) → System → Type 0 where
+    begins : {n : ℕ} {s : System} → History p ρ page n 0 (Erased n) Words s → Batch n 0 [] 0 s
+    onward : {n t₀ high : ℕ} {before : List Numbered} {s : System} → Batch n t₀ before high s → (chip : List ℕ) → Passed page p (s .machine .journal) chip
+        → {s′ : System} → History p ρ page (length chip) (s .tally .committed) (λ l. l ≡ chip) Words s′
+        → Batch (length chip) (s .tally .committed) (before ++ s .outputs) (max high (s .tally .highest)) s′
+
+-- "recovering old or finished new must give the same state", so a batch goes on with the new chip: whatever is folded between the lists, on chips of whatever lengths and under
+-- the sets of either day, no output is skipped, and they are the uncut run's
+abbrev pub Batches : (page : ℕ) → Type 0
+Batches page =
+    (p : List ℕ) → Plan p → (ρ : List ℤ) (n t₀ high : ℕ) (before : List Numbered) (s : System) → Batch p ρ page (EitherSets p) n t₀ before high s
+    → BatchClaim p ρ page n t₀ (EitherSets p) before high s
+
+-- a chip that can be folded: it holds something, so that `Q6` of crate `folding` speaks of it, and folding never gives 12
+pub record Foldable (p chip : List ℕ) : Type 0 where
+  pub end : ℕ
+  pub torn : ℕ
+  pub last : Commit
+  pub values : List ℕ
+  pub taken : Taken (byteFacts p) chip end torn last values
+  pub not-damaged : (words new : List ℕ) (stored budget : ℕ) (r : Outcome) → Folds (envOf p words) chip new stored budget r → ¬ (r .answer ≡ Refused 12)
+
+-- every chip that lists have left is one, folded before or not
+abbrev pub AlwaysFoldable : Type 0
+AlwaysFoldable =
+    (p : List ℕ) → Plan p → (ρ : List ℤ) (n t₀ high : ℕ) (before : List Numbered) (s : System) → Batch p ρ 1 (EitherSets p) n t₀ before high s
+    → (chip : List ℕ) → Passed 1 p (s .machine .journal) chip → Foldable p chip

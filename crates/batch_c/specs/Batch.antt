@@ -1,18 +1,21 @@
--- Lists of C calls that follow one another on one batch, over the bytes that they are lent: document 02, Q-3, of the calls of crate `restart_c`.
+-- Lists of C calls that follow one another on one batch, over the bytes that they are lent: document 02, Q-3 and Q-6, of the calls of crate `restart_c`.
 -- Assumes nothing.
-use Prim.Native.Nat.{ℕ}
+use Prim.Native.Nat.{ℕ, max}
 use mathlib.Core.Path.{_≡_}
-use mathlib.Core.List.{List}
+use mathlib.Core.List.{List, [], _++_}
 use mathlib.Core.Logic.{_⊎_}
 use lib.IntN.{ℤ}
+use lib.ListN.{length}
 use Rattle.pitskelo.specs.Calls.{wordsOf}
 use Rattle.pitskelo.specs.Runs.{setsIn}
-use Rattle.restart.specs.Reference.{zeros}
+use Rattle.pitskelo.specs.Folds.{FoldLent, FoldLeft, FoldCall}
+use Rattle.restart.specs.Reference.{Numbered, zeros}
 use Rattle.restart.specs.Claim.{Plan, Erased, Claim}
 use Rattle.restart_c.specs.Calls.{Board, systemOf, Calls, Found, Answers}
 use Rattle.batch.specs.Until as until
 use Rattle.batch.specs.Until.{mustUntil}
 use Rattle.batch.specs.Batch.{BatchClaim}
+use Rattle.batch_c.specs.Fold.{Finished}
 
 -- the bytes of the sets that pitskelo_analyse found until Q-3: the words that stand in them are by document 01's rule
 abbrev pub FoundUntil : (p ws : List ℕ) → Type 0
@@ -41,3 +44,31 @@ abbrev pub Q3AnyTime : (page : ℕ) → Type 0
 Q3AnyTime page =
     (p : List ℕ) → Plan p → (ρ : List ℤ) (n : ℕ) (b : Board) → Calls page p ρ (EitherSets p) n 0 (Erased n) b
     → Claim p ρ zeros n 0 (Used (EitherSets p)) page (systemOf page b) × Answers page p ρ (EitherSets p) n b
+
+-- ---- Q-6
+
+-- what is done with a chip between two lists: nothing, or pitskelo_fold is called, as often as is wanted
+pub data Passed (page : ℕ) (p chip : List ℕ) : List ℕ → Type 0 where
+  as-left : Passed page p chip chip
+  folded : {l new : List ℕ} → Passed page p chip l → page ≡ 1 → Finished p l new → Passed page p chip new
+
+-- lists one after the other, of which the last has come to a board: n and t₀ are its chip's length and its tally at first, `before` the outputs of the lists before it and `high`
+-- their highest tally
+module _ (page : ℕ) (p : List ℕ) (ρ : List ℤ) (Sets : List ℕ → Type 0) where
+  pub data Batch : (n t₀ : ℕ) (before : List Numbered) (high : ℕ) → Board → Type 0 where
+    begins : {n : ℕ} {b : Board} → Calls page p ρ Sets n 0 (Erased n) b → Batch n 0 [] 0 b
+    onward : {n t₀ high : ℕ} {before : List Numbered} {b : Board} → Batch n t₀ before high b → (chip : List ℕ) → Passed page p (b .chip) chip
+        → {b′ : Board} → Calls page p ρ Sets (length chip) (b .tally .committed) (λ l. l ≡ chip) b′
+        → Batch (length chip) (b .tally .committed) (before ++ b .outputs) (max high (b .tally .highest)) b′
+
+-- whatever is folded between the lists, on chips of whatever lengths and under the sets of either day, no output is skipped, and they are the uncut run's
+abbrev pub Batches : (page : ℕ) → Type 0
+Batches page =
+    (p : List ℕ) → Plan p → (ρ : List ℤ) (n t₀ high : ℕ) (before : List Numbered) (b : Board) → Batch page p ρ (EitherSets p) n t₀ before high b
+    → BatchClaim p ρ page n t₀ (Used (EitherSets p)) before high (systemOf page b) × Answers page p ρ (EitherSets p) n b
+
+-- and pitskelo_fold never gives 12 on a chip that lists have left, folded before or not
+abbrev pub AlwaysFoldable : Type 0
+AlwaysFoldable =
+    (p : List ℕ) → Plan p → (ρ : List ℤ) (n t₀ high : ℕ) (before : List Numbered) (b : Board) → Batch 1 p ρ (EitherSets p) n t₀ before high b
+    → (chip : List ℕ) → Passed 1 p (b .chip) chip → (l : FoldLent) → l .plan ≡ p → l .old ≡ chip → (o : FoldLeft) → FoldCall l o → ¬ (o .result ≡ 12)

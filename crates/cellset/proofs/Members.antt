@@ -25,7 +25,7 @@ pub data Rising : ℕ → List ℕ → Type 0 where
   next : {c x : ℕ} {l : List ℕ} → c ≤ x → Rising (suc x) l → Rising c (x ∷ l)
 
 -- the bound may be lowered
-rising-from : {b c : ℕ} {l : List ℕ} → b ≤ c → Rising c l → Rising b l
+pub rising-from : {b c : ℕ} {l : List ℕ} → b ≤ c → Rising c l → Rising b l
 rising-from h end = end
 rising-from h (next p r) = next (le-trans h p) r
 

@@ -1,4 +1,4 @@
--- Laws of the answer of `scan`. A journal has one answer (`scan-fixed`): of a length that no chip has where it is (`length-found`), else damaged where the chip is damaged
+-- Laws of the answer of `scan`. A journal has one answer (`scan-fixed`, `taken-fixed`): of a length that no chip has where it is (`length-found`), else damaged where the chip is damaged
 -- (`damaged-found`), and what the engine leaves reads back as exactly its checkpoints (`shape-found`), an erased chip as none (`erased-found`). What is found
 -- lies within the chip (`within`). A program's own table holds the program's facts (`facts-same`).
 -- Assumes nothing.
@@ -59,6 +59,19 @@ apart {F} d t =
 blank-same : {v v′ : List ℕ} → Blank v → Blank v′ → v ≡ v′
 blank-same {v} {v′} b b′ = ext-getD 0 v v′ (b .cells ∙ sym (b′ .cells)) (λ c _. b .values-are c ∙ sym (b′ .values-are c))
 
+-- what an accepted reading gives is fixed
+pub taken-fixed : {F : Facts} {chip : List ℕ} {end torn end′ torn′ : ℕ} {last last′ : Commit} {v v′ : List ℕ} → Taken F chip end torn last v → Taken F chip end′ torn′ last′ v′
+    → (end ≡ end′) × (torn ≡ torn′) × (last ≡ last′) × (v ≡ v′)
+taken-fixed {F} {v = v} {v′ = v′} x y =
+    let o = one-reading (x .reading) (y .reading) in (
+      x .end-is ∙ ap (λ (js : List Checkpoint). length (images (F .format) js)) (o .0) ∙ sym (y .end-is),
+      x .torn-is ∙ ap (λ (q : List ℕ). filledOf (F .format .page) (length q)) (o .1) ∙ sym (y .torn-is),
+      x .last-is ∙ ap (lastOf first) (o .0) ∙ sym (y .last-is),
+      ext-getD 0 v v′ (x .cells ∙ sym (y .cells)) λ c h.
+          let k : c < 256 = omega (arith, h, x .cells) in
+          x .values-are c k ∙ ap (λ (js : List Checkpoint). savedValue c js 0) (o .0) ∙ sym (y .values-are c k),
+    )
+
 -- a journal's answer and its values are fixed
 pub scan-fixed : (F : Facts) (chip : List ℕ) (a a′ : Scanned) (v v′ : List ℕ) → Scans F chip a v → Scans F chip a′ v′ → (a ≡ a′) × (v ≡ v′)
 scan-fixed F chip scanned.BadLength scanned.BadLength v v′ x y = (refl, blank-same (x .1) (y .1))
@@ -70,15 +83,8 @@ scan-fixed F chip scanned.Damaged (scanned.Found end torn last) v v′ x y = abs
 scan-fixed F chip (scanned.Found end torn last) scanned.BadLength v v′ x y = clash _ (x .0) (y .0)
 scan-fixed F chip (scanned.Found end torn last) scanned.Damaged v v′ x y = absurd (apart (y .1) (x .1))
 scan-fixed F chip (scanned.Found end torn last) (scanned.Found end′ torn′ last′) v v′ (_, x) (_, y) =
-    let o = one-reading (x .reading) (y .reading) in
-    let e : end ≡ end′ = x .end-is ∙ ap (λ (js : List Checkpoint). length (images (F .format) js)) (o .0) ∙ sym (y .end-is) in
-    let t : torn ≡ torn′ = x .torn-is ∙ ap (λ (q : List ℕ). filledOf (F .format .page) (length q)) (o .1) ∙ sym (y .torn-is) in
-    let l : last ≡ last′ = x .last-is ∙ ap (lastOf first) (o .0) ∙ sym (y .last-is) in (
-      (λ i. scanned.Found (e i) (t i) (l i)),
-      ext-getD 0 v v′ (x .cells ∙ sym (y .cells)) λ c h.
-          let k : c < 256 = omega (arith, h, x .cells) in
-          x .values-are c k ∙ ap (λ (js : List Checkpoint). savedValue c js 0) (o .0) ∙ sym (y .values-are c k),
-    )
+    let f = taken-fixed x y in
+    ((λ i. scanned.Found (f .0 i) (f .1 i) (f .2 i)), f .3)
 
 -- a chip of a length that no chip has is answered so, damaged or not; that no other is, is `Scans` itself
 pub length-found : (F : Facts) (chip : List ℕ) (a : Scanned) (v : List ℕ) → chipLength (F .format .page) (length chip) ≡ false → Scans F chip a v

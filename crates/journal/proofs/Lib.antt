@@ -6,6 +6,7 @@ pub mod Decoding
 pub mod Torn
 pub mod Back
 pub mod Storing
+pub mod Saves
 pub mod Written
 pub mod Fixed
 pub mod Padding

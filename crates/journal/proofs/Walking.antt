@@ -18,9 +18,10 @@ use Rattle.journal.specs.Reading.{Facts, first, Once, Rising, lastOf, sa
 use Rattle.journal.specs.Reading
 use Rattle.journal.specs.Answer.{Blank}
 use Rattle.journal.specs.Parts.{Stamped, UpTo, Passed, Restored, Ends, TailIs, commitAt, Erased, Stops, Refuses, Accepts, WalkIs}
-use Rattle.journal.proofs.Paging.{whole-none, fill-lt, fill-none}
+use Rattle.journal.proofs.Paging as pages
+use Rattle.journal.proofs.Paging.{whole-none, fill-lt, fill-none, fill-behind}
 use Rattle.journal.proofs.Padding.{erased-bytes, erased-past, filling-erased}
-use Rattle.journal.proofs.Decoding.{unique, padded-length}
+use Rattle.journal.proofs.Decoding.{unique, padded-length, images-whole}
 use Rattle.journal.proofs.Torn.{no-front, erased-not-whole}
 use Rattle.journal.proofs.Storing.{images-snoc, rising-snoc, last-snoc, saved-snoc}
 use Rattle.journal.proofs.Peeling.{cut-of, bad-of, whole-of}
@@ -124,6 +125,14 @@ stands {F} {l} {at} {i} {last = last} w p t q m =
       most = h .most;
       more = omega (arith, p .end-is);
     }
+
+-- the checkpoint begins with a page, so that what fills its last page is told by its end alone
+pub walking-fill : {F : Facts} {l : List ℕ} {at i : ℕ} {last : Commit} {seen seen′ values : List ℕ} → Walking F l at last seen values → Passed (F .cells) l at seen′ i
+    → 0 < F .format .page → fillOf (F .format .page) (i + 14) ≡ fillOf (F .format .page) (i + 14 - at)
+walking-fill {F} {at = at} {i = i} w p pos =
+    let e : i + 14 ≡ at + (i + 14 - at) = omega (arith, p .end-is) in
+    let h : pages.Whole (F .format .page) at = rw (w .at-is) (images-whole (F .format) pos (w .saves)) in
+    ap (fillOf (F .format .page)) e ∙ fill-behind (F .format .page) at (i + 14 - at) h
 
 -- the records that were passed, the commit behind them and the filling are the next checkpoint
 pub walking-turn : {F : Facts} {l : List ℕ} {at i next : ℕ} {last commit : Commit} {seen seen′ values values′ : List ℕ} {r : Tail} → Walking F l at last seen values

@@ -102,7 +102,7 @@ pub data Listed (r : Saved) : List Saved → Type 0 where
   there : {q : Saved} {rs : List Saved} → Listed r rs → Listed r (q ∷ rs)
 
 -- cells of which none is c
-records-absent : (c : ℕ) (cs values : List ℕ) → ¬ In c cs → Absent c (recordsOf cs values)
+pub records-absent : (c : ℕ) (cs values : List ℕ) → ¬ In c cs → Absent c (recordsOf cs values)
 unfolding recordsOf
 records-absent c [] values h = Absent.none
 records-absent c (x ∷ cs) values h =
@@ -113,7 +113,7 @@ rising-above : {b c : ℕ} {cs : List ℕ} → Rising b cs → In c cs → b ≤
 rising-above (Rising.next h r) In.here = h
 rising-above (Rising.next h r) (In.there i) = let l = rising-above r i in omega arith
 
-records-once : {b : ℕ} (n : ℕ) (cs values : List ℕ) → Rising b cs → ((c : ℕ) → In c cs → c < n) → ((c : ℕ) → getD values c 0 < 2 ^ 32)
+pub records-once : {b : ℕ} (n : ℕ) (cs values : List ℕ) → Rising b cs → ((c : ℕ) → In c cs → c < n) → ((c : ℕ) → getD values c 0 < 2 ^ 32)
     → Once n (recordsOf cs values)
 unfolding recordsOf
 records-once n [] values Rising.end h v = Once.none
@@ -139,7 +139,7 @@ records-kept c [] values = refl
 records-kept c (x ∷ cs) values = ap (savedIn c (recordsOf cs values)) (record-kept c x values) ∙ records-kept c cs values
 
 -- and a record of the cell makes it right
-records-value : {c : ℕ} {cs : List ℕ} (values : List ℕ) → In c cs → (v : ℕ) → savedIn c (recordsOf cs values) v ≡ getD values c 0
+pub records-value : {c : ℕ} {cs : List ℕ} (values : List ℕ) → In c cs → (v : ℕ) → savedIn c (recordsOf cs values) v ≡ getD values c 0
 unfolding recordsOf savedIn
 records-value {c} values (In.here {l}) v =
     ap (λ (b : Bool). savedIn c (recordsOf l values) (cond b (getD values c 0) v)) (eq-eqb c c refl) ∙ records-kept c l values

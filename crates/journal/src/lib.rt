@@ -117,13 +117,13 @@ fn walk(l: &[u8], n: usize, table: &[u8; 2048], page: usize) -> Contents
         let i = records_end(l, at, n, &mut seen);
         match tail_at(l, i, n, &seen, at as u32 + 1, table, last) {
             Tail::Whole => {
-                restore(l, at, i, &mut values);
                 last = commit_at(l, i + 1);
                 let end = i + 14;
-                let next = end + fill(end - at, page);
+                let next = end + fill(end, page);
                 if !is_erased(l, end, next) {
                     return refused(Scanned::Damaged);
                 }
+                restore(l, at, i, &mut values);
                 at = next;
             }
             Tail::Cut => {

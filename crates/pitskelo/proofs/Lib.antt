@@ -7,3 +7,4 @@ pub mod FixedBytes
 pub mod OddStates
 pub mod Recovering
 pub mod RunCalls
+pub mod FoldCalls

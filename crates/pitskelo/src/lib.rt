@@ -7,6 +7,8 @@ mod words;
 use analysis::Analysed;
 use ended::kind;
 use ended::refusal;
+use folding::Folded;
+use folding::fold;
 use layout::load_cells;
 use layout::load_marks;
 use layout::load_regs;
@@ -30,6 +32,10 @@ ghost use Rattle.program.specs.Places.{Blank};
 ghost use Rattle.recovery.specs.Recover as recovering;
 ghost use Rattle.pitskelo.specs.Storing.{BothStored};
 ghost use Rattle.pitskelo.specs.Runs.{oddState, PlanIs, runCallOf, RecoverCall};
+ghost use Rattle.pitskelo.specs.Folds.{FoldCall};
+
+// The result of a call that is accepted.
+const ACCEPTED: u32 = 0;
 
 // Checks a plan and gives its numbers of cells, commands and EXCLUDEs.
 #[no_mangle]
@@ -50,7 +56,7 @@ pub extern "C" fn pitskelo_check(
             *cells = c;
             *commands = n;
             *excludes = e;
-            0
+            ACCEPTED
         }
         Checked::Refused(number) => number,
     }
@@ -69,7 +75,7 @@ fn store_both(dead: &mut [u8], sets: &mut [u8], d: &[u64], m: usize, s: &[u64], 
     }
     store_words(dead, d, m);
     store_words(sets, s, n);
-    0
+    ACCEPTED
 }
 
 // Analyses a plan into two buffers of 64-bit words: the dead sets, and DE and RO of each EXCLUDE.
@@ -158,7 +164,7 @@ fn recover_lent(page: u32, plan: &[u8], sets: &[u8], chip: &[u8], state: &mut [u
     }
     let after = recovery.state;
     store_state(state, after);
-    0
+    ACCEPTED
 }
 
 // Restores the state that a byte chip holds.
@@ -249,7 +255,7 @@ fn run_lent(
     *steps = pass.steps;
     *taken = pass.taken as u64;
     *given = pass.written as u64;
-    0
+    ACCEPTED
 }
 
 // Runs the plan on a byte chip, from the lent state for at most `budget` steps.
@@ -316,4 +322,40 @@ pub extern "C" fn pitskelo_page_run(
         taken,
         given,
     )
+}
+
+// Folds an old byte chip onto a new one: the next bytes of its one save, at most `budget`.
+#[no_mangle]
+pub extern "C" fn pitskelo_fold(
+    plan: &[u8],
+    sets: &[u8],
+    old: &[u8],
+    new: &mut [u8],
+    stored: u64,
+    budget: u64,
+    after: &mut u64,
+    finished: &mut u32,
+) -> u32
+    ensures { λ r. ⌜ FoldCall (record { plan = now (plan .entry); sets = now (sets .entry); old = now (old .entry); new = now (new .entry); stored = stored; budget = budget; numbers = now (after .entry) ∷ now (finished .entry) ∷ [] }) (record { result = r; new = now (new .exit); numbers = now (after .exit) ∷ now (finished .exit) ∷ [] }) ⌝ }
+{
+    let count = word_count(sets);
+    let words = load_words(sets, count);
+    match fold(
+        plan,
+        &words[..count],
+        old,
+        new,
+        stored as usize,
+        budget as usize,
+    ) {
+        Folded::Stored {
+            stored: n,
+            finished: all,
+        } => {
+            *after = n as u64;
+            *finished = all as u32;
+            ACCEPTED
+        }
+        Folded::Refused(number) => number,
+    }
 }

@@ -1,5 +1,5 @@
--- What the crates above cite: the laws of recovery; below, what the proofs of the functions use.
+-- What the crates above cite: the laws of recovery, and in `Recovering` what is known of an accepted call once the chip is read.
 -- Assumes nothing.
 pub mod Laws
 pub mod Ruling
-mod Recovering
+pub mod Recovering

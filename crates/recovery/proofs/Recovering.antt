@@ -59,7 +59,7 @@ last-exclude b (s ∷ js) h (one k r) = last-exclude (s .commit) js (k .after .e
 -- ---- the refusals
 
 -- no refusal of a program has number 0
-not-zero : {p : List ℕ} {n : ℕ} → Checks p (checked.Refused n) → ¬ (n ≡ 0)
+pub not-zero : {p : List ℕ} {n : ℕ} → Checks p (checked.Refused n) → ¬ (n ≡ 0)
 not-zero h z = omega (arith, accepted-values (h .ruled) z)
 
 module _ (p ws : List ℕ) (page : ℕ) (m : Machine) where

@@ -12,7 +12,7 @@ use Rattle.journal.specs.declared.Commit.{Commit}
 use Rattle.journal.specs.Format.{Checkpoint, Format}
 use Rattle.journal.specs.Reading.{factsOf, first, Rising, lastOf}
 use Rattle.step.specs.Ready.{Legal}
-use Rattle.restart.proofs.Saves.{last-has}
+use Rattle.journal.proofs.Saves.{last-has}
 
 -- its EXCLUDE is one, or 0
 pub last-exclude : {G : Format} (p : List ℕ) {js : List Checkpoint} → Rising (factsOf G p) first js

@@ -13,8 +13,7 @@ pub mod Leaving
 pub mod Phases
 pub mod Restoring
 pub mod Sets
-mod Saves
-mod Commits
+pub mod Commits
 pub mod Lists
 pub mod Outcomes
 mod Testing

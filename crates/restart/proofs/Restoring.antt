@@ -39,7 +39,7 @@ use Rattle.restart.proofs.Lists.{included-zero, included-length}
 use Rattle.restart.proofs.Outcomes as outcomes
 use Rattle.restart.proofs.Outcomes.{refusalOf, Values, stateOf, outcome-made}
 use Rattle.restart.proofs.Invariant.{Small, idle, Inv}
-use Rattle.restart.proofs.Saves.{last-has, saved-has}
+use Rattle.journal.proofs.Saves.{last-has, saved-has}
 use Rattle.restart.proofs.Commits.{last-exclude, last-start}
 use Rattle.restart.proofs.Leaving.{held-restored}
 
@@ -53,7 +53,7 @@ marks-by P p words x h f = bool-cases (eqb x 0) (λ t. rw t h) (λ t. rw t (f (8
 
 module _ (p words : List ℕ) (x : ℕ) where
   -- there are 256
-  marks-length : length (marksBy (envOf p words) x) ≡ 256
+  pub marks-length : length (marksBy (envOf p words) x) ≡ 256
   marks-length =
       marks-by (λ (l : List ℕ). length l ≡ 256) p words x included-length (λ at. recovered-length words at (cellsOf p) included ∙ included-length)
 

@@ -5,4 +5,4 @@ pub mod Hosts
 pub mod FoundSets
 mod Outputs
 mod Back
-mod Calling
+pub mod Calling

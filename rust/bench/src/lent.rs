@@ -8,6 +8,7 @@ use reference::program::{CHECKPOINT, EXCLUDE};
 use reference::refusal::{BUFFER_TOO_SHORT, CHIP_LENGTH, STATE_NOT_SOUND};
 
 use crate::baseline::{analyse, check, SET_WORDS};
+use crate::folding::fold;
 use crate::journals::read;
 use crate::machine::{Lent, Machine, DEAD, INCLUDE, KEPT};
 
@@ -169,6 +170,7 @@ impl Callee for Plain {
             Entry::Run => answer_run::<BYTE_CHIP>(call),
             Entry::PageRecover => answer_recover::<PAGE_CHIP>(call),
             Entry::PageRun => answer_run::<PAGE_CHIP>(call),
+            Entry::Fold => answer_fold(call),
         };
         answer.err().unwrap_or(0)
     }
@@ -208,5 +210,14 @@ fn answer_run<const PAGE: usize>(call: &mut Call) -> Result<(), u32> {
     let [ended, steps, taken, given] = &mut call.numbers;
     set_lower(ended, ran.ended);
     (*steps, *taken, *given) = (ran.steps, ran.taken, ran.given);
+    Ok(())
+}
+
+fn answer_fold(call: &mut Call) -> Result<(), u32> {
+    let (plan, old, set_words) = (call.plan.lent(), call.chip.lent(), call.sets.words());
+    let new = call.new_chip.lend();
+    let folded = fold(plan, set_words, old, new, call.stored, call.budget)?;
+    call.numbers[0] = folded.stored;
+    set_lower(&mut call.numbers[1], u32::from(folded.finished));
     Ok(())
 }

@@ -1,18 +1,20 @@
-//! Times the verified library, through its C entries, against the baseline, in turns: check, and the whole of analyse, on
-//! each plan; runs of one step, recoveries, saves and long runs. A line gives the microseconds of a call of each, the
-//! least of many turns, and the ratio of the two. With `--bar X` a ratio above X is a failure:
-//! `cargo run --release -p bench -- --bar 2`. At the end stand the bytes that document 001's programs save.
+//! Times the verified library, through its C entries, against the baseline, in turns: check, and
+//! the whole of analyse, on each plan; runs of one step, recoveries, saves, long runs and folds. A
+//! line gives the microseconds of a call of each, the least of many turns, and the ratio of the
+//! two. With `--bar X` a ratio above X is a failure: `cargo run --release -p bench -- --bar 2`. At
+//! the end stand the bytes that document 001's programs save.
 
 use std::env;
 use std::hint::black_box;
 use std::process::ExitCode;
 
 use bench::baseline::{self, DEAD_WORDS, SET_WORDS};
+use bench::folding::MAX_SAVE;
 use bench::lent::Plain;
 use bench::plans::plans;
 use bench::race::race;
 use bench::sizes::{sizes, Sizes};
-use bench::timed::{long_runs, one_step, recoveries, whole_saves};
+use bench::timed::{folds, long_runs, one_step, recoveries, whole_saves};
 use differential::call::{agree, words, Call, Callee, Library};
 
 fn main() -> ExitCode {
@@ -56,7 +58,7 @@ fn time_analysis(bar: f64) -> bool {
     passes
 }
 
-/// Recoveries and runs.
+/// Recoveries, runs and folds.
 fn time_calls(bar: f64) -> bool {
     let mut passes = true;
     for (name, call) in &one_step() {
@@ -76,6 +78,11 @@ fn time_calls(bar: f64) -> bool {
         let times = race_calls(call);
         passes &= report("C, run", name, times, bar);
         report_rates("million steps", times, call.budget as f64);
+    }
+    for (name, call) in &folds() {
+        let times = race_calls(call);
+        passes &= report("C, fold", name, times, bar);
+        report_rates("megabytes", times, call.chip.len() as f64);
     }
     passes
 }
@@ -126,8 +133,9 @@ fn race_analyse(plan: &[u8]) -> [f64; 2] {
     )
 }
 
-/// Asserts that library and baseline answer the call as the reference does, and races them. The state is put back before
-/// each call; a run does not read the chip, and a recovery does not alter it.
+/// Asserts that library and baseline answer the call as the reference does, and races them. The
+/// state is put back before each call, and what a fold may have stored; a run does not read the
+/// chip, and no other call alters it.
 fn race_calls(call: &Call) -> [f64; 2] {
     agree(&Library, call).expect("the library agrees with the reference");
     agree(&Plain, call).expect("the baseline agrees with the reference");
@@ -141,6 +149,8 @@ fn race_calls(call: &Call) -> [f64; 2] {
 
 fn answer_again(callee: &impl Callee, call: &mut Call, first: &Call) {
     call.state.lend().copy_from_slice(first.state.lent());
+    let stored = MAX_SAVE.min(first.new_chip.len());
+    call.new_chip.lend()[..stored].copy_from_slice(&first.new_chip.lent()[..stored]);
     black_box(callee.answer(black_box(call)));
 }
 

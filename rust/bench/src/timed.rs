@@ -1,7 +1,7 @@
-//! The calls of recovery and run that are timed, and their plans.
+//! The calls of recovery, run and folding that are timed, and their plans.
 
 use differential::buffer::Buffer;
-use differential::call::{number_bytes, words, Call, Entry};
+use differential::call::{number_bytes, sets_of, words, Call, Callee, Entry};
 use differential::examples::SMALL;
 use reference::journal::{BYTE_CHIP, ERASED, MAX_CHIP, PAGE_CHIP};
 use reference::layout::STATE_BYTES;
@@ -12,6 +12,7 @@ use reference::program::{
 
 use crate::baseline::SET_WORDS;
 use crate::journals::{byte_chips, page_chips, PLAN};
+use crate::lent::Plain;
 use crate::plans::plans;
 
 fn set(cell: u8, value: i32) -> Vec<u8> {
@@ -191,4 +192,44 @@ pub fn long_runs() -> Vec<(&'static str, Call)> {
         ("saves of 256 cells, pages", filling(256)),
         ("saves of 16 cells, pages", filling(16)),
     ]
+}
+
+/// A plan of 16 cells that all change from round to round, but the first, and are saved each time.
+fn sums() -> Vec<u8> {
+    let add = |cell: u8| [ADD, cell, cell, cell - 1];
+    let adds: Vec<u8> = (1..16).flat_map(add).collect();
+    let again = vec![EXCLUDE, CHECKPOINT, JUMP, 7, 0];
+    [vec![15], set(0, 1), adds, again].concat()
+}
+
+/// The chip of the greatest length that a run of this plan leaves, full of saves.
+fn full_chip(plan: &[u8], sets: &[u64]) -> Vec<u8> {
+    let mut chip = vec![ERASED; MAX_CHIP];
+    let machine = Machine::new(plan, sets, BYTE_CHIP).expect("plan and sets are accepted");
+    let ran = machine.run(&mut chip, &mut State::first(), &[], 0, 100_000);
+    ran.expect("the first state is sound");
+    chip
+}
+
+/// How many bytes of the save are stored where one more is timed.
+const MIDDLE: u64 = 50;
+
+/// Folds of a full chip onto a blank one of the greatest length, with their names: the whole save,
+/// and one byte in the middle of it.
+pub fn folds() -> Vec<(&'static str, Call)> {
+    let plan = sums();
+    let sets = sets_of(&plan);
+    let old = full_chip(&plan, &sets);
+    let blank = vec![ERASED; MAX_CHIP];
+    let whole = Call {
+        budget: u64::MAX,
+        ..Call::fold(&plan, &sets, &old, &blank)
+    };
+    let mut one = Call {
+        budget: MIDDLE,
+        ..whole.clone()
+    };
+    assert_eq!(Plain.answer(&mut one), 0, "the fold is accepted");
+    (one.stored, one.budget) = (MIDDLE, 1);
+    vec![("a full chip", whole), ("a full chip, 1 byte", one)]
 }

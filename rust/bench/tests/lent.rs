@@ -1,37 +1,43 @@
-//! Holds the plain recovery and run to the reference on calls drawn from seeds, half of them hostile, so that the library
-//! is timed against what is right; and the calls that are timed.
+//! Holds the plain recovery, run and folding to the reference on calls drawn from seeds, half of
+//! them hostile, so that the library is timed against what is right; and the calls that are timed.
 
 use bench::lent::Plain;
-use bench::timed::{long_runs, one_step, recoveries, whole_saves};
+use bench::timed::{folds, long_runs, one_step, recoveries, whole_saves};
 use differential::call::{agree, Entry, Library};
 use differential::seeded::seeded;
-use reference::journal::{read, PAGE_CHIP};
+use reference::journal::{read, BYTE_CHIP, MAX_CHIP, PAGE_CHIP};
 
 #[test]
 fn calls_from_seeds() {
-    for (entry, calls, results) in [
-        (Entry::Check, 5_000, 9),
-        (Entry::Analyse, 1_000, 10),
-        (Entry::Recover, 20_000, 13),
-        (Entry::Run, 20_000, 12),
-        (Entry::PageRecover, 20_000, 13),
-        (Entry::PageRun, 20_000, 12),
-    ] {
-        let mut hits = [0; 13];
+    for entry in Entry::ALL {
+        let calls = match entry {
+            Entry::Check => 5_000,
+            Entry::Analyse => 1_000,
+            _ => 20_000,
+        };
+        let mut hits = [0; 15];
         for seed in 0..calls {
             let call = seeded(entry, seed).call;
             let (result, _) = agree(&Plain, &call)
                 .unwrap_or_else(|difference| panic!("{entry:?} {seed}: {difference}"));
             hits[result as usize] += 1;
         }
-        println!("{entry:?} with the answers 0 to 12: {hits:?}");
-        assert!(hits[..results].iter().all(|&count| count >= 5));
+        println!("{entry:?} with the answers 0 to 14: {hits:?}");
+        let mut results = entry.refusals().chain([0]);
+        assert!(results.all(|result| hits[result] >= 5));
     }
 }
 
 #[test]
 fn the_timed_calls() {
-    for (name, call) in [one_step(), recoveries(), whole_saves(), long_runs()].concat() {
+    let calls = [
+        one_step(),
+        recoveries(),
+        whole_saves(),
+        long_runs(),
+        folds(),
+    ];
+    for (name, call) in calls.concat() {
         let ours = agree(&Library, &call).expect(name);
         let theirs = agree(&Plain, &call).expect(name);
         assert_eq!([ours.0, theirs.0], [0, 0], "{name}");
@@ -69,5 +75,20 @@ fn the_long_runs_do_what_their_names_say() {
         let left = left(name);
         let held = read(left.plan.lent(), left.chip.lent(), PAGE_CHIP).expect(name);
         assert_eq!((held.saves.len(), held.torn), (saves, 0), "{name}");
+    }
+}
+
+#[test]
+fn the_folds_do_what_their_names_say() {
+    // The whole save has all 16 cells, and each after the first has all but the first cell.
+    let of = |cells: usize| 6 * cells + 14;
+    let answers = [(of(16) as u64, 1), (51, 0)];
+    for ((name, call), answer) in folds().into_iter().zip(answers) {
+        let held = read(call.plan.lent(), call.chip.lent(), BYTE_CHIP).expect(name);
+        let room = MAX_CHIP - of(16);
+        let saves = 1 + room / of(15);
+        assert_eq!((held.saves.len(), held.torn), (saves, 0), "{name}");
+        let folded = agree(&Plain, &call).expect(name).1.folded();
+        assert_eq!((folded.stored, folded.finished), answer, "{name}");
     }
 }

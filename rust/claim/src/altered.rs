@@ -1,13 +1,15 @@
-//! Engines with one error each, on which the watch has to fail. Each is a sound engine in a wrapper that lets it take
-//! its steps one by one and alters one thing: the sets, a recovery, a step, or an answer.
+//! Engines with one error each, on which the watch has to fail. Each is a sound engine in a wrapper
+//! that lets it take its steps one by one and alters one thing: the sets, a recovery, a step, an
+//! answer, or a fold (`misfolds`).
 
 use reference::analysis::analyse_with;
+use reference::folding::Folded;
 use reference::journal::{read, ERASED, MARK_END};
 use reference::machine::{Ended, Mark, State, Stop};
 use reference::program::{Instruction, CHECKPOINT, EXCLUDE};
 use reference::refusal::{CHIP_DAMAGED, STATE_NOT_SOUND};
 
-use crate::engine::{fill, Engine, Lent, Ran};
+use crate::engine::{fill, Engine, Lent, LentFold, Ran};
 
 /// What is altered.
 #[derive(Clone, Copy, Debug, PartialEq, Eq)]
@@ -43,7 +45,7 @@ pub enum Alter {
     ErasesForever,
     /// A run answers spent before its first step.
     SpentAtOnce,
-    /// A refused call clears the state.
+    /// A refused call clears the state, a refused fold the new chip.
     RefusedClears,
     /// Recovery itself erases the torn bytes.
     RecoveryErases,
@@ -61,6 +63,28 @@ pub enum Alter {
     LeavesTorn,
     /// Recovery takes a chip for damaged whose last save holds a cell that is Dead by the sets.
     RefusesDeadCells,
+    /// A fold leaves out the cell of the highest number.
+    FoldDropsLast,
+    /// A fold stores the first mark's fields.
+    FoldFirstMark,
+    /// A fold stores the first saved value of each cell.
+    FoldFirstValues,
+    /// A fold takes in the whole records of a torn save.
+    FoldTorn,
+    /// A fold is finished without the save's last byte.
+    FoldEndsEarly,
+    /// A fold stores the records by falling number.
+    FoldFalling,
+    /// A fold stores every cell that was saved, also one of value 0.
+    FoldZeros,
+    /// A fold erases the old chip.
+    FoldErasesOld,
+    /// A fold stores a byte more than the budget says.
+    FoldOverspends,
+    /// A fold is refused where bytes are stored already.
+    FoldRefusesBegun,
+    /// A fold never answers that it is finished.
+    FoldNeverEnds,
 }
 
 impl Alter {
@@ -155,6 +179,12 @@ impl<E: Engine> Engine for Altered<E> {
             gave = next.written > 0;
         }
     }
+
+    fn fold(&self, lent: LentFold) -> Result<Folded, u32> {
+        let new = lent.new;
+        let answer = self.altered_fold(LentFold { new, ..lent });
+        answer.inspect_err(|_| self.alter_refused(new))
+    }
 }
 
 /// Chip and state before a step; no state where the bytes are none, which every engine refuses.
@@ -182,9 +212,9 @@ impl<E> Altered<E> {
         }
     }
 
-    fn alter_refused(&self, state: &mut [u8]) {
+    fn alter_refused(&self, lent: &mut [u8]) {
         if self.alter == Alter::RefusedClears {
-            state.fill(0);
+            lent.fill(0);
         }
     }
 
@@ -295,7 +325,7 @@ fn keep_pending(marks: &mut [Mark]) {
 }
 
 /// How many bytes there are up to the last that is not FF.
-fn without_trailing_ff(bytes: &[u8]) -> usize {
+pub(crate) fn without_trailing_ff(bytes: &[u8]) -> usize {
     let last = bytes.iter().rposition(|&byte| byte != ERASED);
     last.map_or(0, |last| last + 1)
 }

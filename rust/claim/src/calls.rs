@@ -102,7 +102,7 @@ fn spoil_content(content: &mut Content, rng: &mut Rng) {
 }
 
 /// Document 01's examples of refused plans, or a random plan with a byte altered or cut off.
-fn refused_plan(rng: &mut Rng) -> Vec<u8> {
+pub(crate) fn refused_plan(rng: &mut Rng) -> Vec<u8> {
     let mut altered = plan(rng);
     match rng.below(12) {
         0 => vec![],
@@ -125,7 +125,7 @@ fn refused_plan(rng: &mut Rng) -> Vec<u8> {
     }
 }
 
-fn spoil_chip(chip: &mut Vec<u8>, rng: &mut Rng) {
+pub(crate) fn spoil_chip(chip: &mut Vec<u8>, rng: &mut Rng) {
     match rng.below(3) {
         0 => chip.resize(MAX_CHIP + 1, 0xFF),
         1 => *chip = vec![0x00, 0xFF],

@@ -115,6 +115,11 @@ impl TwoDays {
         }
     }
 
+    /// Notes that the list goes on with a folded chip, which has no torn bytes.
+    pub(crate) fn fold(&mut self) {
+        (self.torn, self.is_torn) = (None, false);
+    }
+
     /// Notes how a recovery marked the cells in DE since Q-3.
     pub(crate) fn recovered(&self, state: &[u8], met: &mut Met) {
         let marked = State::from_bytes(state).and_then(|state| self.are_dead(&state));

@@ -1,6 +1,7 @@
 //! What an engine is to the harness, and the Rust version as one.
 
-use reference::{Analysis, Machine};
+use reference::folding::Folded;
+use reference::{fold, Analysis, Machine};
 
 /// What the host lends to every call, and the page length of the chip, which says for which kind the call is. A state is
 /// bytes, as docs/STATE.md lays them out.
@@ -10,6 +11,18 @@ pub struct Lent<'a> {
     pub page: usize,
     pub chip: &'a mut [u8],
     pub state: &'a mut [u8],
+}
+
+/// What the host lends to a call of folding: an old chip and a new one, how many bytes are stored
+/// on that, and how many more the call may store. The old one can be altered, so that it shows
+/// where an engine does.
+pub struct LentFold<'a> {
+    pub plan: &'a [u8],
+    pub sets: &'a [u64],
+    pub old: &'a mut [u8],
+    pub new: &'a mut [u8],
+    pub stored: u64,
+    pub budget: u64,
 }
 
 /// What an accepted run answers: how it ended, as a number of the C interface, and its steps, readings taken and
@@ -38,7 +51,8 @@ impl Ran {
     }
 }
 
-/// An engine: its analysis, recovery and run. A refusal is document 01's number.
+/// An engine: its analysis, recovery, run and folding. A refusal is the number of document 01 or
+/// 02.
 pub trait Engine {
     /// Fills the words with DE and RO of an accepted plan; later words remain.
     fn analyse(&self, plan: &[u8], sets: &mut [u64]);
@@ -52,6 +66,8 @@ pub trait Engine {
         outputs: &mut [i32],
         budget: u64,
     ) -> Result<Ran, u32>;
+
+    fn fold(&self, lent: LentFold) -> Result<Folded, u32>;
 }
 
 /// The Rust version.
@@ -86,6 +102,11 @@ impl Engine for Reference {
             taken: ran.taken,
             written: ran.given.len(),
         })
+    }
+
+    fn fold(&self, lent: LentFold) -> Result<Folded, u32> {
+        let (words, old) = (lent.sets.len(), &*lent.old);
+        fold(lent.plan, words, old, lent.new, lent.stored, lent.budget)
     }
 }
 

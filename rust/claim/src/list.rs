@@ -1,6 +1,7 @@
-//! Random lists of calls for one kind of chip, each drawn from a seed: under one day's sets, or over the two days of
-//! document 02's request Q-3.
+//! Random lists of calls for one kind of chip, each drawn from a seed: under one day's sets, or
+//! over the two days of document 02's request Q-3; and with folds of the chip, of its request Q-6.
 
+use std::fmt;
 use std::ops::Range;
 use std::thread::{available_parallelism, scope};
 
@@ -11,18 +12,51 @@ use reference::machine::SET_WORDS;
 use crate::calls::{spoiled, try_call};
 use crate::days::Days;
 use crate::engine::Engine;
+use crate::folds::fold;
 use crate::met::Met;
 use crate::plans::{plan, set_points};
 use crate::rng::Rng;
 use crate::sentence::{Sentence, Violation};
 use crate::watch::{Start, Watch};
 
-/// Watches the lists of these seeds for chips of a page length, on as many threads as the machine runs at once. Gives the
+/// A sort of lists: which day's sets their calls get, the page length of their chips, and whether
+/// these are folded.
+#[derive(Clone, Copy, Debug, PartialEq, Eq)]
+pub struct Sort {
+    pub days: Days,
+    pub page: usize,
+    pub folds: bool,
+}
+
+impl Sort {
+    /// Lists without folds.
+    pub fn of(days: Days, page: usize) -> Sort {
+        let folds = false;
+        Sort { days, page, folds }
+    }
+
+    /// Lists with folds, which byte chips alone have.
+    pub fn folding(days: Days) -> Sort {
+        Sort {
+            days,
+            page: BYTE_CHIP,
+            folds: true,
+        }
+    }
+}
+
+impl fmt::Display for Sort {
+    fn fmt(&self, text: &mut fmt::Formatter) -> fmt::Result {
+        let folds = if self.folds { ", with folds" } else { "" };
+        write!(text, "{:?}, pages of {}{folds}", self.days, self.page)
+    }
+}
+
+/// Watches the lists of these seeds, on as many threads as the machine runs at once. Gives the
 /// lowest seed whose list violates a sentence, if one does.
 pub fn watch_lists(
     engine: &(impl Engine + Sync),
-    days: Days,
-    page: usize,
+    sort: Sort,
     seeds: Range<u64>,
     met: &mut Met,
 ) -> Result<(), (u64, Violation)> {
@@ -30,7 +64,7 @@ pub fn watch_lists(
     let outcomes: Vec<_> = scope(|scope| {
         let spawn = |first: usize| {
             let seeds = seeds.clone().skip(first).step_by(count);
-            scope.spawn(move || watch_some(engine, days, page, seeds))
+            scope.spawn(move || watch_some(engine, sort, seeds))
         };
         let threads: Vec<_> = (0..count).map(spawn).collect();
         let joined = threads.into_iter().map(|thread| thread.join());
@@ -50,37 +84,35 @@ pub fn watch_lists(
 /// Watches the lists up to the first that violates a sentence.
 fn watch_some(
     engine: &impl Engine,
-    days: Days,
-    page: usize,
+    sort: Sort,
     mut seeds: impl Iterator<Item = u64>,
 ) -> (Met, Option<(u64, Violation)>) {
     let mut met = Met::default();
     let violated = seeds.find_map(|seed| {
-        let violation = watch_list(engine, days, page, seed, &mut met).err()?;
+        let violation = watch_list(engine, sort, seed, &mut met).err()?;
         Some((seed, violation))
     });
     (met, violated)
 }
 
-/// Watches the list of this seed for a chip of this page length, and adds what it met.
+/// Watches the list of this sort and seed, and adds what it met.
 pub fn watch_list(
     engine: &impl Engine,
-    days: Days,
-    page: usize,
+    sort: Sort,
     seed: u64,
     met: &mut Met,
 ) -> Result<(), Violation> {
     // An odd factor spreads neighbouring seeds, and takes none but 0 to 0.
     let mut rng = Rng::new((seed + 1).wrapping_mul(0x9E37_79B9_7F4A_7C15));
-    let mut watch = Watch::new(engine, start(&mut rng, days, page));
+    let mut watch = Watch::new(engine, start(&mut rng, sort));
     watch.met = std::mem::take(met);
     watch.met.count("lists");
-    let outcome = match days {
-        Days::Today => call_all(&mut watch, &mut rng),
-        Days::Change => call_over_change(&mut watch, &mut rng),
+    let outcome = match sort.days {
+        Days::Today => call_all(&mut watch, &mut rng, sort),
+        Days::Change => call_over_change(&mut watch, &mut rng, sort),
         Days::Either => {
             watch.lend_either(Rng::new(1 | rng.word()));
-            call_all(&mut watch, &mut rng)
+            call_all(&mut watch, &mut rng, sort)
         }
     };
     *met = std::mem::take(&mut watch.met);
@@ -88,18 +120,19 @@ pub fn watch_list(
 }
 
 /// What a list begins with. Over two days most plans keep set points, so that their sets differ.
-fn start(rng: &mut Rng, days: Days, page: usize) -> Start {
+fn start(rng: &mut Rng, sort: Sort) -> Start {
+    let page = sort.page;
     Start {
-        plan: match days {
+        plan: match sort.days {
             Days::Change | Days::Either if rng.below(8) > 0 => set_points(rng),
             _ => plan(rng),
         },
         readings: readings(rng),
         page,
-        chip: match (rng.below(4), days) {
+        chip: match (rng.below(4), sort.days) {
             (0, _) => rng.below(60).next_multiple_of(page),
-            (_, Days::Today) => rng.below(401).next_multiple_of(page),
-            // Longer ones have room for saves of either day.
+            (_, Days::Today) if !sort.folds => rng.below(401).next_multiple_of(page),
+            // Longer ones have room for saves of either day, and before and behind a fold.
             _ => rng.below(801).next_multiple_of(page),
         },
         state: spoiled(&[0; STATE_BYTES], rng),
@@ -107,20 +140,25 @@ fn start(rng: &mut Rng, days: Days, page: usize) -> Start {
     }
 }
 
-fn call_all<E: Engine>(watch: &mut Watch<E>, rng: &mut Rng) -> Result<(), Violation> {
-    call_some(watch, rng, 5, 18)?;
+fn call_all<E: Engine>(watch: &mut Watch<E>, rng: &mut Rng, sort: Sort) -> Result<(), Violation> {
+    call_some(watch, rng, sort, 5, 18)?;
     finish(watch, rng).map(|_| ())
 }
 
-/// Makes at least so many calls, and below `more` others.
+/// Makes at least so many calls, and below `more` others; a fold counts as one.
 fn call_some<E: Engine>(
     watch: &mut Watch<E>,
     rng: &mut Rng,
+    sort: Sort,
     least: usize,
     more: usize,
 ) -> Result<(), Violation> {
     for _ in 0..least + rng.below(more) {
         match watch.is_good() {
+            _ if sort.folds && rng.below(6) == 0 => {
+                lead_into_save(watch, rng)?;
+                fold(watch, rng)?;
+            }
             true => call_when_good(watch, rng)?,
             false => call_when_spoiled(watch, rng)?,
         }
@@ -129,10 +167,18 @@ fn call_some<E: Engine>(
 }
 
 /// A list that is begun under the sets until Q-3, on which the day changes at some call.
-fn call_over_change<E: Engine>(watch: &mut Watch<E>, rng: &mut Rng) -> Result<(), Violation> {
+fn call_over_change<E: Engine>(
+    watch: &mut Watch<E>,
+    rng: &mut Rng,
+    sort: Sort,
+) -> Result<(), Violation> {
     watch.begin_until();
-    call_some(watch, rng, 1, 8)?;
+    call_some(watch, rng, sort, 1, 8)?;
     lead_into_save(watch, rng)?;
+    let folds = watch.folds();
+    if folds > 0 {
+        watch.met.count("changes of day after a fold");
+    }
     watch.change_day(spoiled(watch.state(), rng));
     match rng.below(2) {
         0 => lead_into_save(watch, rng)?,
@@ -143,7 +189,10 @@ fn call_over_change<E: Engine>(watch: &mut Watch<E>, rng: &mut Rng) -> Result<()
         }
     }
     watch.cut(spoiled(watch.state(), rng));
-    call_some(watch, rng, 3, 8)?;
+    call_some(watch, rng, sort, 3, 8)?;
+    if watch.folds() > folds {
+        watch.met.count("changes of day before a fold");
+    }
     if finish(watch, rng)? {
         watch.met.count("stops reached after the change");
     }
@@ -246,6 +295,9 @@ fn finish<E: Engine>(watch: &mut Watch<E>, rng: &mut Rng) -> Result<bool, Violat
         let ran = watch.run(lent, room, budget)?;
         if ran.is_stopped() {
             watch.met.count("stops reached");
+            if watch.folds() > 0 {
+                watch.met.count("stops reached after a fold");
+            }
             return Ok(true);
         }
         if ran.steps == 0 {

@@ -6,6 +6,7 @@ use std::fmt;
 use reference::journal::BYTE_CHIP;
 
 use crate::days::Days;
+use crate::list::Sort;
 
 /// How much of what a thousand lists have to meet at least, or their test has shown too little.
 const FLOORS: [(&str, u64); 25] = [
@@ -65,6 +66,45 @@ const FLOORS_OF_EITHER: [(&str, u64); 7] = [
     ("saves without a cell in DE since", 120),
 ];
 
+/// The same for what only lists with folds meet.
+const FLOORS_OF_FOLDS: [(&str, u64); 27] = [
+    ("folds", 1000),
+    ("folds of a chip with torn bytes", 300),
+    ("folds of a chip without a whole save", 400),
+    ("folds of a chip with several saves", 180),
+    ("folds in a list that had one", 500),
+    ("folds to a shorter chip", 400),
+    ("folds to a longer chip", 300),
+    ("folds to a chip as long as the save", 130),
+    ("calls of folding", 3000),
+    ("cuts in a fold", 700),
+    ("cuts within the save", 230),
+    ("numbers found again below the lost one", 20),
+    ("saves behind a fold", 700),
+    ("stops reached after a fold", 230),
+    ("folds refused 1", 2),
+    ("folds refused 2", 2),
+    ("folds refused 3", 2),
+    ("folds refused 4", 2),
+    ("folds refused 5", 2),
+    ("folds refused 6", 2),
+    ("folds refused 7", 2),
+    ("folds refused 8", 2),
+    ("folds refused 9", 80),
+    ("folds refused 11", 80),
+    ("folds refused 12", 40),
+    ("folds refused 13", 150),
+    ("folds refused 14", 40),
+];
+
+/// The same for what only lists with folds meet on which the day changes.
+const FLOORS_OF_FOLDS_AND_CHANGE: [(&str, u64); 4] = [
+    ("changes of day", 1000),
+    ("lists whose DE grew", 300),
+    ("changes of day after a fold", 250),
+    ("changes of day before a fold", 300),
+];
+
 #[derive(Clone, Debug, Default)]
 pub struct Met(BTreeMap<&'static str, u64>);
 
@@ -88,17 +128,22 @@ impl Met {
         self.0.get(name).copied().unwrap_or(0)
     }
 
-    /// Asserts that the lists of these days for chips of this page length met enough of everything.
-    pub fn assert_floors(&self, days: Days, page: usize) {
+    /// Asserts that the lists of this sort met enough of everything.
+    pub fn assert_floors(&self, sort: Sort) {
         self.assert_floors_per("lists", &FLOORS);
-        if page > BYTE_CHIP {
+        if sort.page > BYTE_CHIP {
             self.assert_floors_per("lists", &FLOORS_OF_PAGES);
         }
-        match days {
-            Days::Today => {}
-            Days::Change => self.assert_floors_per("lists", &FLOORS_OF_CHANGE),
-            Days::Either => self.assert_floors_per("lists", &FLOORS_OF_EITHER),
+        if sort.folds {
+            self.assert_floors_per("lists", &FLOORS_OF_FOLDS);
         }
+        let of_days: &[_] = match (sort.days, sort.folds) {
+            (Days::Today, _) => &[],
+            (Days::Change, false) => &FLOORS_OF_CHANGE,
+            (Days::Change, true) => &FLOORS_OF_FOLDS_AND_CHANGE,
+            (Days::Either, _) => &FLOORS_OF_EITHER,
+        };
+        self.assert_floors_per("lists", of_days);
     }
 
     /// Asserts that every thousand of what is named met as much as the floors say.

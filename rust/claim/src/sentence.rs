@@ -4,8 +4,8 @@ use std::fmt;
 
 use reference::journal::ERASED;
 
-/// What a list may violate: the sentences of document 01's section in their order, then what the harness takes for
-/// granted in them.
+/// What a list may violate: the sentences of document 01's section in their order, then what the
+/// harness takes for granted in them, then what document 02 says of folding (Q-6).
 #[derive(Clone, Copy, Debug, PartialEq, Eq, PartialOrd, Ord)]
 pub enum Sentence {
     /// "After each accepted call that no cut ended, place .. are the uncut run's".
@@ -36,6 +36,18 @@ pub enum Sentence {
     ChipByRecovery,
     /// A run is its steps, whatever calls they are taken in.
     StepsOfRun,
+    /// A fold is refused that gives no ground: of a chip that a list left, onto one that is long
+    /// enough and begins as the number says.
+    FoldRefused,
+    /// "The old chip is never altered".
+    OldChip,
+    /// "stores the next bytes upward until budget or save is spent", whatever calls they are stored
+    /// in, so that "a cut .. leaves the new chip with a beginning of that save, or the whole". As a
+    /// fold with budget stores a byte or is finished, it ends.
+    FoldBytes,
+    /// "recovering old or finished new must give the same state except for write position and bytes
+    /// to erase".
+    FoldedState,
 }
 
 /// A sentence that a list violates, and where.

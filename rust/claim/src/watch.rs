@@ -5,12 +5,13 @@
 //! budget 1. These are runs of a list too, so the sentences are checked after each of them. Then it makes the call
 //! itself, which has to leave and answer the same.
 
-use reference::journal::ERASED;
+use reference::folding::Folded;
+use reference::journal::{BYTE_CHIP, ERASED};
 use reference::layout::STATE_BYTES;
 use reference::machine::State;
 
 use crate::days::{dead_sets, DeadSets, TwoDays};
-use crate::engine::{fill, Engine, Lent, Ran};
+use crate::engine::{fill, Engine, Lent, LentFold, Ran};
 use crate::met::Met;
 use crate::record::Record;
 use crate::rng::Rng;
@@ -70,6 +71,9 @@ pub struct Watch<'e, E> {
     point: Point,
     /// Whether an accepted call left the state and no cut has since spoiled it.
     good: bool,
+    /// How often the chip was folded, and until it is recovered, the chip that it was folded from.
+    folds: usize,
+    old: Option<Vec<u8>>,
     pub met: Met,
 }
 
@@ -102,6 +106,8 @@ impl<'e, E: Engine> Watch<'e, E> {
                 so_far: Vec::new(),
             },
             good: false,
+            folds: 0,
+            old: None,
             met: Met::default(),
         }
     }
@@ -182,6 +188,10 @@ impl<'e, E: Engine> Watch<'e, E> {
         self.good
     }
 
+    pub fn folds(&self) -> usize {
+        self.folds
+    }
+
     pub fn tally(&self) -> usize {
         self.point.tally
     }
@@ -218,7 +228,8 @@ impl<'e, E: Engine> Watch<'e, E> {
         self.point.tally = self.point.saved;
         (self.point.steps, self.point.erased) = (0, 0);
         self.good = true;
-        agree(&mut self.record, &self.dead, &self.point)
+        agree(&mut self.record, &self.dead, &self.point)?;
+        self.compare_with_old()
     }
 
     /// A cut in a recovery: of the state only the first bytes are the recovered ones.
@@ -242,6 +253,86 @@ impl<'e, E: Engine> Watch<'e, E> {
         let altered = || format!("chip {} became {}", shown(before), shown(&left.chip));
         hold(left.chip == *before, Sentence::ChipByRecovery, altered)?;
         Ok(left.state)
+    }
+
+    /// A call of folding, of the list's chip onto a new one of which so many bytes are stored. It
+    /// must be accepted, leave the old chip alone, and store the next bytes alone.
+    pub fn fold(&mut self, new: &mut [u8], stored: u64, budget: u64) -> Result<Folded, Violation> {
+        assert_eq!(self.page, BYTE_CHIP, "both are byte chips");
+        self.draw_sets();
+        self.met.count("calls of folding");
+        let before = new.to_vec();
+        let mut old = self.point.chip.clone();
+        let answer = self.engine.fold(LentFold {
+            plan: &self.plan,
+            sets: &self.sets,
+            old: &mut old,
+            new,
+            stored,
+            budget,
+        });
+        let refused = |number| Violation {
+            sentence: Sentence::FoldRefused,
+            text: format!(
+                "refused {number}, {stored} bytes stored on {}",
+                shown(&before)
+            ),
+        };
+        let folded = answer.map_err(refused)?;
+        let altered = || format!("chip {} became {}", shown(&self.point.chip), shown(&old));
+        hold(old == self.point.chip, Sentence::OldChip, altered)?;
+        let is_next = stores_next(folded, [&before, new], stored, budget);
+        let text = || {
+            format!(
+                "{folded:?} from {stored} with budget {budget}: {}",
+                shown(new)
+            )
+        };
+        hold(is_next, Sentence::FoldBytes, text)?;
+        Ok(folded)
+    }
+
+    /// The fold is finished: the list goes on with the new chip, which one call alone would leave
+    /// too, and with what is given in the state, as after a cut.
+    pub fn go_on_with(&mut self, new: Vec<u8>, spoiled: Vec<u8>) -> Result<(), Violation> {
+        let mut whole = vec![ERASED; new.len()];
+        self.fold(&mut whole, 0, u64::MAX)?;
+        let text = || format!("{}, in one call {}", shown(&new), shown(&whole));
+        hold(new == whole, Sentence::FoldBytes, text)?;
+        self.cut(spoiled);
+        self.old = Some(std::mem::replace(&mut self.point.chip, new));
+        self.folds += 1;
+        if let Some(days) = &mut self.days {
+            days.fold();
+        }
+        Ok(())
+    }
+
+    /// Where the chip was folded since the last recovery: the state recovered from the old one is
+    /// the same "except for write position and bytes to erase".
+    fn compare_with_old(&mut self) -> Result<(), Violation> {
+        let Some(chip) = self.old.take() else {
+            return Ok(());
+        };
+        let mut old = Point {
+            chip,
+            ..self.point.clone()
+        };
+        let lent = lend(&self.plan, &self.sets, self.page, &mut old);
+        let answer = self.engine.recover(lent);
+        let refused = || format!("the old chip: {answer:?}");
+        hold(answer.is_ok(), Sentence::RecoveryRefused, refused)?;
+        let (from_old, mut new) = (state_of(&old)?, state_of(&self.point)?);
+        (new.write, new.erase) = (from_old.write, from_old.erase);
+        let new = new.to_bytes();
+        let differs = (0..STATE_BYTES).find(|&at| new[at] != old.state[at]);
+        let text = || {
+            format!(
+                "byte {differs:?} of the state, old chip {}",
+                shown(&old.chip)
+            )
+        };
+        hold(differs.is_none(), Sentence::FoldedState, text)
     }
 
     /// A cut, after which the state holds what is given.
@@ -372,6 +463,9 @@ impl<'e, E: Engine> Watch<'e, E> {
             Step::StoredLast => {
                 point.saved = point.tally;
                 self.met.count("whole saves");
+                if self.folds > 0 {
+                    self.met.count("saves behind a fold");
+                }
             }
             Step::PassedOver => self.met.count("saves passed over"),
             Step::Erased => {
@@ -416,6 +510,17 @@ fn lend<'a>(plan: &'a [u8], sets: &'a [u64], page: usize, point: &'a mut Point) 
         chip: &mut point.chip,
         state: &mut point.state,
     }
+}
+
+/// Whether a fold stored the next bytes, no more than the budget and, unless it is finished, no
+/// fewer, and the new chip is as it was before and behind them.
+fn stores_next(folded: Folded, [before, after]: [&[u8]; 2], stored: u64, budget: u64) -> bool {
+    let Some(bytes) = folded.stored.checked_sub(stored) else {
+        return false;
+    };
+    let as_many = bytes == budget || folded.finished && bytes < budget;
+    let (from, to) = (stored as usize, folded.stored as usize);
+    as_many && to <= before.len() && before[..from] == after[..from] && before[to..] == after[to..]
 }
 
 /// What a cut is called that falls between two pages, where so many were erased since the last recovery: a save is torn

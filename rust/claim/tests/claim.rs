@@ -1,20 +1,23 @@
-//! Document 01's demand 3 on the Rust version, over random lists of calls for either kind of chip, and over lists that
-//! go over the two days of document 02's request Q-3; and that the same lists find each of the altered engines.
+//! Document 01's demand 3 on the Rust version, over random lists of calls for either kind of chip,
+//! over lists that go over the two days of document 02's request Q-3, and over lists with folds, of
+//! its request Q-6; and that the same lists find each of the altered engines.
 
 use std::env;
 use std::ops::Range;
 
 use claim::altered::{Alter, Altered};
-use claim::{watch_list, watch_lists, Days, Engine, Met, Reference, Sentence};
+use claim::{watch_list, watch_lists, Days, Engine, Met, Reference, Sentence, Sort, Violation};
 use reference::journal::{BYTE_CHIP, PAGE_CHIP};
 
 /// The lists for the Rust version and each kind of chip, unless `CLAIM_LISTS` says another number.
 const LISTS: u64 = 4_000;
 
-/// One list over two days for so many of one day.
+/// One list over two days, or with folds, for so many of one day and without.
 const OF_ONE_DAY: u64 = 2;
 
 const KINDS: [usize; 2] = [BYTE_CHIP, PAGE_CHIP];
+
+const ALL_DAYS: [Days; 3] = [Days::Today, Days::Change, Days::Either];
 
 /// The lists within which an altered engine must be caught.
 const FEW: Range<u64> = 0..1_000;
@@ -45,43 +48,57 @@ fn altered(alter: Alter) -> Altered<Reference> {
     }
 }
 
-/// The first of few seeds whose list over these days and for this kind the altered engine violates in one of these
+/// The first of few seeds whose list of this sort the altered engine violates in one of these
 /// sentences.
 #[track_caller]
-fn caught(alter: Alter, days: Days, page: usize, by: &[Sentence]) {
+fn caught(alter: Alter, sort: Sort, by: &[Sentence]) {
+    let (seed, violation) = first_caught(alter, sort, by)
+        .unwrap_or_else(|| panic!("{alter:?}, {sort}, is not caught by {FEW:?}"));
+    println!("{alter:?}, {sort}, seed {seed}: {violation}");
+}
+
+fn first_caught(alter: Alter, sort: Sort, by: &[Sentence]) -> Option<(u64, Violation)> {
     let engine = altered(alter);
-    let violation = |seed| watch_list(&engine, days, page, seed, &mut Met::default()).err();
-    let (seed, violation) = FEW
-        .filter_map(|seed| Some((seed, violation(seed)?)))
-        .find(|(_, violation)| by.contains(&violation.sentence))
-        .unwrap_or_else(|| {
-            panic!("{alter:?}, {days:?}, pages of {page}, is not caught by {FEW:?}")
-        });
-    println!("{alter:?}, {days:?}, pages of {page}, seed {seed}: {violation}");
+    let violation = |seed| watch_list(&engine, sort, seed, &mut Met::default()).err();
+    let mut violations = FEW.filter_map(|seed| Some((seed, violation(seed)?)));
+    violations.find(|(_, violation)| by.contains(&violation.sentence))
 }
 
 #[track_caller]
-fn keeps_the_claim(engine: &(impl Engine + Sync), days: Days, seeds: Range<u64>) {
+fn keeps_the_claim(engine: &(impl Engine + Sync), sort: Sort, seeds: Range<u64>) {
+    let mut met = Met::default();
+    if let Err((seed, violation)) = watch_lists(engine, sort, seeds, &mut met) {
+        panic!("{sort}, seed {seed}: {violation}");
+    }
+    println!("Lists of {sort}:");
+    print!("{met}");
+    met.assert_floors(sort);
+}
+
+/// As `keeps_the_claim`, for each kind of chip.
+#[track_caller]
+fn kinds_keep_the_claim(engine: &(impl Engine + Sync), days: Days, seeds: Range<u64>) {
     for page in KINDS {
-        let mut met = Met::default();
-        if let Err((seed, violation)) = watch_lists(engine, days, page, seeds.clone(), &mut met) {
-            panic!("{days:?}, pages of {page}, seed {seed}: {violation}");
-        }
-        println!("Lists of {days:?} for chips with pages of {page}:");
-        print!("{met}");
-        met.assert_floors(days, page);
+        keeps_the_claim(engine, Sort::of(days, page), seeds.clone());
     }
 }
 
 #[test]
 fn the_rust_version_keeps_the_claim() {
-    keeps_the_claim(&Reference, Days::Today, 0..lists());
+    kinds_keep_the_claim(&Reference, Days::Today, 0..lists());
 }
 
 #[test]
 fn lists_over_two_days_keep_the_claim() {
     for days in [Days::Change, Days::Either] {
-        keeps_the_claim(&Reference, days, 0..lists() / OF_ONE_DAY);
+        kinds_keep_the_claim(&Reference, days, 0..lists() / OF_ONE_DAY);
+    }
+}
+
+#[test]
+fn lists_with_folds_keep_the_claim() {
+    for days in ALL_DAYS {
+        keeps_the_claim(&Reference, Sort::folding(days), 0..lists() / OF_ONE_DAY);
     }
 }
 
@@ -89,17 +106,20 @@ fn lists_over_two_days_keep_the_claim() {
 #[test]
 fn pages_of_any_length_keep_the_claim() {
     for page in BYTE_CHIP + 1..PAGE_CHIP {
-        let watched = watch_lists(&Reference, Days::Today, page, 0..100, &mut Met::default());
+        let sort = Sort::of(Days::Today, page);
+        let watched = watch_lists(&Reference, sort, 0..100, &mut Met::default());
         if let Err((seed, violation)) = watched {
-            panic!("pages of {page}, seed {seed}: {violation}");
+            panic!("{sort}, seed {seed}: {violation}");
         }
     }
 }
 
 #[test]
 fn the_wrapper_alone_keeps_the_claim() {
-    for days in [Days::Today, Days::Change, Days::Either] {
-        keeps_the_claim(&altered(Alter::Nothing), days, FEW);
+    for days in ALL_DAYS {
+        let engine = altered(Alter::Nothing);
+        kinds_keep_the_claim(&engine, days, FEW);
+        keeps_the_claim(&engine, Sort::folding(days), FEW);
     }
 }
 
@@ -117,7 +137,7 @@ fn the_errors_to_rule_out_are_caught_by_the_claim() {
         Alter::OnlySaysSo,
     ] {
         for page in KINDS {
-            caught(alter, Days::Today, page, &OF_THE_CLAIM);
+            caught(alter, Sort::of(Days::Today, page), &OF_THE_CLAIM);
         }
     }
 }
@@ -132,7 +152,7 @@ fn errors_of_pages_are_caught_by_the_claim() {
         Alter::GoesOnBehindMark,
         Alter::GoesOnPageLater,
     ] {
-        caught(alter, Days::Today, PAGE_CHIP, &OF_THE_CLAIM);
+        caught(alter, Sort::of(Days::Today, PAGE_CHIP), &OF_THE_CLAIM);
     }
 }
 
@@ -142,7 +162,7 @@ fn wrong_rules_of_put_are_caught_over_two_days() {
     for alter in [Alter::SurePut, Alter::SurePutOfTwo, Alter::SurePutBeside] {
         for days in [Days::Change, Days::Either] {
             for page in KINDS {
-                caught(alter, days, page, &OF_THE_CLAIM);
+                caught(alter, Sort::of(days, page), &OF_THE_CLAIM);
             }
         }
     }
@@ -154,12 +174,57 @@ fn wrong_rules_of_put_are_caught_over_two_days() {
 fn errors_that_show_at_a_change_of_day_are_caught_there() {
     for alter in [Alter::LeavesTorn, Alter::RefusesDeadCells] {
         for page in KINDS {
-            let found = watch_lists(&altered(alter), Days::Today, page, FEW, &mut Met::default());
-            assert!(found.is_ok(), "{alter:?}, pages of {page}: {found:?}");
+            let today = Sort::of(Days::Today, page);
+            let found = watch_lists(&altered(alter), today, FEW, &mut Met::default());
+            assert!(found.is_ok(), "{alter:?}, {today}: {found:?}");
             for days in [Days::Change, Days::Either] {
-                caught(alter, days, page, &[Sentence::RecoveryRefused]);
+                caught(alter, Sort::of(days, page), &[Sentence::RecoveryRefused]);
             }
         }
+    }
+}
+
+/// They are folds to a save that recovers to another state, or to none.
+#[test]
+fn errors_of_folds_are_caught_by_the_claim() {
+    for alter in [
+        Alter::FoldDropsLast,
+        Alter::FoldFirstMark,
+        Alter::FoldFirstValues,
+        Alter::FoldTorn,
+        Alter::FoldEndsEarly,
+    ] {
+        for days in ALL_DAYS {
+            caught(alter, Sort::folding(days), &OF_THE_CLAIM);
+        }
+    }
+}
+
+/// Recovery takes records in any order and of any value, so the lists cannot find these. A longer
+/// save shows only where the new chip has no room for it. The calls drawn from seeds find both.
+#[test]
+fn a_fold_to_other_bytes_of_the_same_state_is_not_caught() {
+    for days in ALL_DAYS {
+        let sort = Sort::folding(days);
+        let falling = altered(Alter::FoldFalling);
+        let found = watch_lists(&falling, sort, FEW, &mut Met::default());
+        assert!(found.is_ok(), "{sort}: {found:?}");
+        assert!(first_caught(Alter::FoldZeros, sort, &OF_THE_CLAIM).is_none());
+        caught(Alter::FoldZeros, sort, &[Sentence::FoldRefused]);
+    }
+}
+
+#[test]
+fn each_sentence_of_folds_is_seen_to_fail() {
+    for (alter, sentence) in [
+        (Alter::FoldRefusesBegun, Sentence::FoldRefused),
+        (Alter::FoldErasesOld, Sentence::OldChip),
+        (Alter::FoldOverspends, Sentence::FoldBytes),
+        (Alter::FoldNeverEnds, Sentence::FoldBytes),
+        (Alter::FoldDropsLast, Sentence::FoldedState),
+        (Alter::RefusedClears, Sentence::RefusedCall),
+    ] {
+        caught(alter, Sort::folding(Days::Today), &[sentence]);
     }
 }
 
@@ -182,7 +247,7 @@ fn each_sentence_is_seen_to_fail() {
         (Alter::InventsAStep, Sentence::StepsOfRun),
     ] {
         for page in KINDS {
-            caught(alter, Days::Today, page, &[sentence]);
+            caught(alter, Sort::of(Days::Today, page), &[sentence]);
         }
     }
 }

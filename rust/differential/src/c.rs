@@ -23,6 +23,21 @@ extern "C" {
         sets: *mut u8,
         sets_len: usize,
     ) -> u32;
+
+    fn pitskelo_fold(
+        plan: *const u8,
+        plan_len: usize,
+        sets: *const u8,
+        sets_len: usize,
+        old_chip: *const u8,
+        old_len: usize,
+        new_chip: *mut u8,
+        new_len: usize,
+        stored: u64,
+        budget: u64,
+        now_stored: *mut u64,
+        finished: *mut u32,
+    ) -> u32;
 }
 
 /// The entries of a kind of chip: those of every kind have the same parameters in the same order.
@@ -76,6 +91,7 @@ impl Callee for Library {
             Entry::Analyse => analyse(call),
             Entry::Recover | Entry::PageRecover => recover(call),
             Entry::Run | Entry::PageRun => run(call),
+            Entry::Fold => fold(call),
         }
     }
 }
@@ -166,6 +182,30 @@ fn run(call: &mut Call) -> u32 {
             steps,
             taken,
             given,
+        )
+    }
+}
+
+fn fold(call: &mut Call) -> u32 {
+    let (plan, plan_len) = slice(&call.plan, call.nulls);
+    let (sets, sets_len) = slice(&call.sets, call.nulls);
+    let (old, old_len) = slice(&call.chip, call.nulls);
+    let (new, new_len) = slice_mut(&mut call.new_chip, call.nulls);
+    let [now_stored, finished, ..] = &mut call.numbers;
+    unsafe {
+        pitskelo_fold(
+            plan,
+            plan_len,
+            sets,
+            sets_len,
+            old,
+            old_len,
+            new,
+            new_len,
+            call.stored,
+            call.budget,
+            now_stored,
+            lower(finished),
         )
     }
 }

@@ -1,5 +1,6 @@
-//! A call of one of the C interface's six entries: all that is lent to it, who answers it (the library through C, or the
-//! reference), and how two answers are compared, every byte of every buffer included.
+//! A call of one of the C interface's seven entries: all that is lent to it, who answers it (the
+//! library through C, or the reference), and how two answers are compared, every byte of every
+//! buffer included.
 
 use reference::journal::{BYTE_CHIP, PAGE_CHIP};
 use reference::Machine;
@@ -20,9 +21,20 @@ pub enum Entry {
     Run,
     PageRecover,
     PageRun,
+    Fold,
 }
 
 impl Entry {
+    pub const ALL: [Entry; 7] = [
+        Entry::Check,
+        Entry::Analyse,
+        Entry::Recover,
+        Entry::Run,
+        Entry::PageRecover,
+        Entry::PageRun,
+        Entry::Fold,
+    ];
+
     /// The recovery of chips of this page length.
     pub fn recover(page: usize) -> Entry {
         Entry::of_kind(page, [Entry::Recover, Entry::PageRecover])
@@ -41,6 +53,18 @@ impl Entry {
         }
     }
 
+    /// The refusals that its calls can get. A fold is lent no state, so it has no 10.
+    pub fn refusals(self) -> impl Iterator<Item = usize> {
+        let last = match self {
+            Entry::Check => 8,
+            Entry::Analyse => 9,
+            Entry::Run | Entry::PageRun => 11,
+            Entry::Recover | Entry::PageRecover => 12,
+            Entry::Fold => 14,
+        };
+        (1..=last).filter(move |number| self != Entry::Fold || *number != 10)
+    }
+
     /// The page length of its chips; check and analyse have none.
     pub fn page(self) -> usize {
         match self {
@@ -57,7 +81,11 @@ pub struct Call {
     pub plan: Buffer,
     pub dead: Buffer,
     pub sets: Buffer,
+    /// The chip; of a fold the old one.
     pub chip: Buffer,
+    /// The new chip of a fold, and how many bytes are stored on it.
+    pub new_chip: Buffer,
+    pub stored: u64,
     pub state: Buffer,
     pub readings: Buffer,
     pub outputs: Buffer,
@@ -78,6 +106,13 @@ pub struct Ran {
     pub given: u64,
 }
 
+/// What a fold answers in its numbers.
+#[derive(Clone, Copy, Debug, PartialEq, Eq)]
+pub struct Folded {
+    pub stored: u64,
+    pub finished: u32,
+}
+
 impl Call {
     /// A call that lends empty slices, to be filled in.
     pub fn new(entry: Entry) -> Call {
@@ -88,6 +123,8 @@ impl Call {
             dead: empty(),
             sets: empty(),
             chip: empty(),
+            new_chip: empty(),
+            stored: 0,
             state: empty(),
             readings: empty(),
             outputs: empty(),
@@ -116,25 +153,38 @@ impl Call {
         }
     }
 
+    /// A fold of an old chip onto a new one, lent these, with no byte stored and no budget yet.
+    pub fn fold(plan: &[u8], sets: &[u64], old: &[u8], new: &[u8]) -> Call {
+        Call {
+            plan: Buffer::plain(plan),
+            sets: Buffer::plain(&word_bytes(sets)),
+            chip: Buffer::plain(old),
+            new_chip: Buffer::plain(new),
+            ..Call::new(Entry::Fold)
+        }
+    }
+
     /// The buffers with their names.
-    pub fn buffers(&self) -> [(&'static str, &Buffer); 7] {
+    pub fn buffers(&self) -> [(&'static str, &Buffer); 8] {
         [
             ("plan", &self.plan),
             ("dead", &self.dead),
             ("sets", &self.sets),
             ("chip", &self.chip),
+            ("the new chip", &self.new_chip),
             ("state", &self.state),
             ("readings", &self.readings),
             ("outputs", &self.outputs),
         ]
     }
 
-    pub fn buffers_mut(&mut self) -> [&mut Buffer; 7] {
+    pub fn buffers_mut(&mut self) -> [&mut Buffer; 8] {
         [
             &mut self.plan,
             &mut self.dead,
             &mut self.sets,
             &mut self.chip,
+            &mut self.new_chip,
             &mut self.state,
             &mut self.readings,
             &mut self.outputs,
@@ -149,6 +199,15 @@ impl Call {
             steps,
             taken,
             given,
+        }
+    }
+
+    /// The numbers that an accepted fold left.
+    pub fn folded(&self) -> Folded {
+        let [stored, finished, ..] = self.numbers;
+        Folded {
+            stored,
+            finished: finished as u32,
         }
     }
 
@@ -213,6 +272,7 @@ impl Callee for Reference {
             Entry::Analyse => expect_analyse(call),
             Entry::Recover | Entry::PageRecover => expect_recover(call),
             Entry::Run | Entry::PageRun => expect_run(call),
+            Entry::Fold => expect_fold(call),
         };
         answer.err().unwrap_or(0)
     }
@@ -259,6 +319,16 @@ fn expect_run(call: &mut Call) -> Result<(), u32> {
     let [ended, steps, taken, given] = &mut call.numbers;
     set_lower(ended, ran.ended.number());
     (*steps, *taken, *given) = (ran.steps, ran.taken as u64, ran.given.len() as u64);
+    Ok(())
+}
+
+fn expect_fold(call: &mut Call) -> Result<(), u32> {
+    let (plan, old, set_words) = (call.plan.lent(), call.chip.lent(), call.sets.words());
+    let new = call.new_chip.lend();
+    let folded = reference::fold(plan, set_words, old, new, call.stored, call.budget)?;
+    let [stored, finished, ..] = &mut call.numbers;
+    *stored = folded.stored;
+    set_lower(finished, u32::from(folded.finished));
     Ok(())
 }
 

@@ -1,6 +1,7 @@
 //! The verified library, through C, as an engine of the harness for document 01's demand 3.
 
-use claim::{Engine, Lent, Ran};
+use claim::{Engine, Lent, LentFold, Ran};
+use reference::folding::Folded;
 
 use crate::buffer::Buffer;
 use crate::call::{
@@ -50,6 +51,23 @@ impl Engine for Library {
             steps: ran.steps,
             taken: ran.taken as usize,
             written: ran.given as usize,
+        })
+    }
+
+    fn fold(&self, lent: LentFold) -> Result<Folded, u32> {
+        let mut call = Call {
+            stored: lent.stored,
+            budget: lent.budget,
+            ..Call::fold(lent.plan, lent.sets, lent.old, lent.new)
+        };
+        let result = self.answer(&mut call);
+        lent.old.copy_from_slice(call.chip.lent());
+        lent.new.copy_from_slice(call.new_chip.lent());
+        accepted(result)?;
+        let folded = call.folded();
+        Ok(Folded {
+            stored: folded.stored,
+            finished: folded.finished == 1,
         })
     }
 }

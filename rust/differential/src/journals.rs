@@ -1,11 +1,13 @@
 //! Random chips of either kind: as the engine leaves them, and altered.
 
-use reference::check;
-use reference::journal::{Mark, Save, ERASED, MARK, MARK_END, RECORD};
+use reference::journal::{Mark, Save, BYTE_CHIP, ERASED, MARK, MARK_END, RECORD};
+use reference::machine::State;
 use reference::program::{CHECKPOINT, END, EXCLUDE, LENGTHS};
+use reference::{check, Machine};
 
 use crate::examples::programs;
 use crate::rng::Rng;
+use crate::states::value;
 
 /// Plans of several kinds: document 001's programs, one cell, 256 cells, and offsets whose low bytes
 /// are the same or whose high bytes are not 0.
@@ -54,9 +56,10 @@ fn save(rng: &mut Rng, plan: &[u8], last: Mark) -> Save {
     let records = (0..size)
         .map(|_| {
             let cell = fresh.swap_remove(rng.below(fresh.len()));
-            let value = match rng.below(3) {
-                0 => -1,
-                1 => 0x5AA2_A100,
+            let value = match rng.below(8) {
+                0 => 0,
+                1..3 => -1,
+                3..5 => 0x5AA2_A100,
                 _ => rng.word() as i32,
             };
             (cell, value)
@@ -117,6 +120,37 @@ pub fn filled(rng: &mut Rng, plan: &[u8], length: usize, page: usize) -> Vec<u8>
         last = save.mark;
         chip.extend(pages);
     }
+}
+
+/// A byte chip of two saves, of which the last holds every cell with a value that is not 0, and
+/// some FF.
+pub fn every_cell(rng: &mut Rng, plan: &[u8]) -> Vec<u8> {
+    let first = save(rng, plan, FIRST);
+    let mut every = save(rng, plan, first.mark);
+    let mut cells: Vec<u8> = (0..=plan[0]).rev().collect();
+    cells.rotate_left(rng.below(usize::from(plan[0])));
+    let any = 1 | rng.word() as i32;
+    let record = |cell| (cell, rng.pick(&[-1, 1, any]));
+    every.records = cells.into_iter().map(record).collect();
+    let erased = vec![ERASED; rng.below(40)];
+    [first.bytes(), every.bytes(), erased].concat()
+}
+
+/// A byte chip as a list of recoveries, runs and cuts leaves it. Any sets will do: no save is
+/// unsound for the cells that it holds.
+pub fn left(rng: &mut Rng, plan: &[u8], sets: &[u64]) -> Vec<u8> {
+    let machine = Machine::new(plan, sets, BYTE_CHIP).expect("plan and sets are accepted");
+    let mut chip = vec![ERASED; rng.below(500)];
+    for _ in 0..1 + rng.below(3) {
+        let mut state = State::first();
+        let recovered = machine.recover(&chip, &mut state);
+        recovered.expect("a list leaves no damaged chip");
+        let readings: Vec<i32> = (0..rng.below(30)).map(|_| value(rng)).collect();
+        let budget = rng.below(500) as u64;
+        let ran = machine.run(&mut chip, &mut state, &readings, 100, budget);
+        ran.expect("recovery leaves a sound state");
+    }
+    chip
 }
 
 /// The chip with a few bytes replaced, mostly by bytes that mean something, or some dropped.

@@ -8,6 +8,7 @@ pub mod engine;
 pub mod examples;
 pub mod faults;
 pub mod features;
+pub mod folds;
 pub mod journals;
 pub mod plans;
 pub mod seeded;

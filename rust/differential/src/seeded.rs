@@ -3,12 +3,14 @@
 
 use reference::journal::{BYTE_CHIP, ERASED, MAX_CHIP, PAGE_CHIP};
 use reference::layout::STATE_BYTES;
+use reference::program::{CHECKPOINT, END, EXCLUDE};
 use reference::Machine;
 
 use crate::buffer::Buffer;
 use crate::call::{number_bytes, words, Call, Entry, DEAD_WORDS, SET_WORDS};
 use crate::examples::{programs, SMALL};
 use crate::faults;
+use crate::folds::{old_chip, save_of, NewChip};
 use crate::journals::{self, filled, stored};
 use crate::plans::{crowded, large, long, reversed, stream, valid, woven, Draft};
 use crate::rng::Rng;
@@ -27,7 +29,9 @@ pub fn seeded(entry: Entry, seed: u64) -> Seeded {
     let mut content = content(&mut rng, entry);
     let mut faults = Vec::new();
     if seed % 2 == 1 {
-        for _ in 0..rng.pick(&[1, 1, 2]) {
+        // More folds have two, since they have more refusals whose order shows so.
+        let two = if entry == Entry::Fold { 2 } else { 1 };
+        for _ in 0..rng.pick(&[1, two, 2]) {
             faults.push(content.spoil(&mut rng, entry));
         }
     }
@@ -37,13 +41,14 @@ pub fn seeded(entry: Entry, seed: u64) -> Seeded {
     }
 }
 
-/// The bytes of what is lent, and the budget.
+/// The bytes of what is lent, and the budget; of a fold the chip is the old one.
 #[derive(Default)]
 struct Content {
     plan: Vec<u8>,
     dead: Vec<u8>,
     sets: Vec<u8>,
     chip: Vec<u8>,
+    new_chip: NewChip,
     state: Vec<u8>,
     readings: Vec<u8>,
     outputs: Vec<u8>,
@@ -68,6 +73,7 @@ fn content(rng: &mut Rng, entry: Entry) -> Content {
         }
         Entry::Recover | Entry::PageRecover => content.for_recover(rng, entry.page()),
         Entry::Run | Entry::PageRun => content.for_run(rng, entry.page(), many),
+        Entry::Fold => content.for_fold(rng),
     }
     content
 }
@@ -236,6 +242,24 @@ impl Content {
         Ok(())
     }
 
+    /// What a fold is lent. Every tenth plan has 256 cells, and of the others few have no
+    /// CHECKPOINT.
+    fn for_fold(&mut self, rng: &mut Rng) {
+        if rng.below(10) == 0 {
+            self.plan = vec![0xFF, EXCLUDE, CHECKPOINT, END];
+        }
+        while !self.has_checkpoint() && rng.below(10) > 0 {
+            self.plan = plan(rng, Entry::Fold);
+        }
+        self.sets = sets(rng, &self.plan);
+        self.chip = match self.has_checkpoint() {
+            true => old_chip(rng, &self.plan, &words(&self.sets)),
+            false => vec![ERASED; rng.below(100)],
+        };
+        self.new_chip = NewChip::for_save(rng, save_of(&self.plan, &self.chip));
+        self.budget = self.new_chip.budget(rng);
+    }
+
     /// Spoils something of what the entry is lent, and gives the fault's name.
     fn spoil(&mut self, rng: &mut Rng, entry: Entry) -> &'static str {
         if let Some(fault) = self.spoil_kind(rng, entry) {
@@ -257,6 +281,7 @@ impl Content {
                 self.chip = faults::long_chip(rng, std::mem::take(&mut self.chip));
                 "a chip that is too long"
             }
+            (Entry::Fold, _) => self.spoil_chips(rng),
             (Entry::Recover | Entry::PageRecover, 6) => {
                 let length = rng.pick(&[0, STATE_BYTES - 1, STATE_BYTES + 1, 2 * STATE_BYTES]);
                 self.state.resize(length, 0);
@@ -270,6 +295,22 @@ impl Content {
         }
     }
 
+    /// Spoils one of a fold's chips, or the number of bytes stored.
+    fn spoil_chips(&mut self, rng: &mut Rng) -> &'static str {
+        match rng.below(8) {
+            0 => {
+                let bytes = &mut self.new_chip.bytes;
+                *bytes = faults::long_chip(rng, std::mem::take(bytes));
+                "a new chip that is too long"
+            }
+            1..3 => {
+                self.chip = faults::chip(rng, std::mem::take(&mut self.chip));
+                "an altered chip"
+            }
+            _ => self.new_chip.spoil(rng),
+        }
+    }
+
     /// Now and then spoils something that has to do with the kinds of chip, where the plan is accepted and saves.
     fn spoil_kind(&mut self, rng: &mut Rng, entry: Entry) -> Option<&'static str> {
         let is_accepted = reference::check(&self.plan).is_ok();
@@ -277,7 +318,7 @@ impl Content {
         let other = BYTE_CHIP + PAGE_CHIP - page;
         match (entry, rng.below(16)) {
             _ if !is_accepted || !self.has_checkpoint() => None,
-            (Entry::Recover | Entry::PageRecover, 0..2) => {
+            (Entry::Recover | Entry::PageRecover | Entry::Fold, 0..2) => {
                 self.chip = stored(rng, &self.plan, other);
                 self.fill_page(page);
                 Some("a chip of the other kind")
@@ -346,6 +387,8 @@ impl Content {
             dead: Buffer::holding(rng, &self.dead),
             sets: Buffer::holding(rng, &self.sets),
             chip: Buffer::holding(rng, &self.chip),
+            new_chip: Buffer::holding(rng, &self.new_chip.bytes),
+            stored: self.new_chip.stored,
             state: Buffer::holding(rng, &self.state),
             readings: Buffer::holding(rng, &self.readings),
             outputs: Buffer::holding(rng, &self.outputs),

@@ -102,7 +102,7 @@ pub fn sound(rng: &mut Rng, shape: &Shape, chip: usize) -> State {
 }
 
 /// A number up to the most, every other time 0 or the most.
-fn edge(rng: &mut Rng, most: usize) -> usize {
+pub(crate) fn edge(rng: &mut Rng, most: usize) -> usize {
     match rng.below(4) {
         0 => 0,
         1 => most,

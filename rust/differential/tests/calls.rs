@@ -1,24 +1,27 @@
-//! Calls of the six C entries drawn from seeds, half of them hostile, answered by the library and by the reference: the
-//! same result, and the same in every byte of every buffer and in every number after the call. `PITSKELO_CALLS` sets how
-//! many calls of each entry there are.
+//! Calls of the seven C entries drawn from seeds, half of them hostile, answered by the library and
+//! by the reference: the same result, and the same in every byte of every buffer and in every
+//! number after the call. `PITSKELO_CALLS` sets how many calls of each entry there are.
 
 use std::env;
 use std::ops::Range;
 
-use claim::Met;
+use claim::altered::{Alter, Altered};
+use claim::{Engine, LentFold, Met};
 use differential::call::{
-    agree, answered, difference, Answer, Call, Entry, Library, Reference, SET_WORDS,
+    agree, answered, difference, set_lower, words, Answer, Call, Callee, Entry, Library, Reference,
+    SET_WORDS,
 };
 use differential::seeded::{seeded, Seeded};
 use differential::states::{FAULTS, FAULTS_OF_PAGES};
-use reference::journal::{ERASED, MAX_CHIP};
+use reference::folding::folded;
+use reference::journal::{read, Chip, Save, BYTE_CHIP, ERASED, MAX_CHIP};
 use reference::machine::State;
 
 /// How many readings or outputs the library takes at a time.
 const STRETCH: u64 = 1_024;
 
 /// The results by number, as they are counted.
-const RESULTS: [&str; 13] = [
+const RESULTS: [&str; 15] = [
     "accepted",
     "refused 1",
     "refused 2",
@@ -32,6 +35,8 @@ const RESULTS: [&str; 13] = [
     "refused 10",
     "refused 11",
     "refused 12",
+    "refused 13",
+    "refused 14",
 ];
 
 /// How runs end, by number, as they are counted.
@@ -123,6 +128,68 @@ const LENGTHS: [(&str, u64); 6] = [
     ("chips of 65,537 bytes", 1),
 ];
 
+/// The same for what else folds must meet.
+const OF_FOLDS: [(&str, u64); 40] = [
+    ("an altered plan", 40),
+    ("too few words of DE and RO", 10),
+    ("a chip that is too long", 10),
+    ("a new chip that is too long", 5),
+    ("an altered chip", 10),
+    ("a chip of the other kind", 10),
+    ("a wrong byte before the number", 3),
+    ("a wrong byte behind the number", 6),
+    ("a number that is too high", 6),
+    ("a number that is too low", 1),
+    ("a new chip that is too short", 5),
+    ("words with a rest", 400),
+    ("more words than need be", 400),
+    ("a null chip", 1),
+    ("a null new chip", 20),
+    ("old chips of 65,537 bytes", 5),
+    ("new chips of 65,537 bytes", 2),
+    ("old chips of 65,536 bytes", 1),
+    ("new chips of 65,536 bytes", 8),
+    ("numbers of 2^32 or more", 8),
+    ("numbers of 2^64 - 1", 1),
+    ("budgets of 2^32 or more", 80),
+    ("budgets of 2^64 - 1", 20),
+    ("folds that are finished", 200),
+    ("folds that are not finished", 60),
+    ("folds finished in one call", 20),
+    ("folds finished with the budget", 30),
+    ("folds that lack one byte", 18),
+    ("no budget and not finished", 18),
+    ("no budget at the end", 9),
+    ("folds of an empty save", 80),
+    ("saves of 256 records", 3),
+    ("FF within the save", 80),
+    ("numbers that FF leaves open", 25),
+    ("new chips as long as the save", 50),
+    ("old chips with torn bytes", 100),
+    ("old chips of several saves", 100),
+    ("old chips with a cell saved twice", 60),
+    ("old chips with a cell of value 0", 70),
+    ("old chips with records that do not rise", 60),
+];
+
+/// Two faults of a fold, by their refusals, of which the first is given: what is met of each, too.
+const BOTH: [(&str, u32, u32); 14] = [
+    ("9, where 11 has a ground", 9, 11),
+    ("9, where 12 has a ground", 9, 12),
+    ("9, where 13 has a ground", 9, 13),
+    ("9, where 14 has a ground", 9, 14),
+    ("11, where 12 has a ground", 11, 12),
+    ("11, where 13 has a ground", 11, 13),
+    ("11, where 14 has a ground", 11, 14),
+    ("12, where 13 has a ground", 12, 13),
+    ("12, where 14 has a ground", 12, 14),
+    ("13, where 14 has a ground", 13, 14),
+    ("the plan's refusal, where 9 has a ground", 8, 9),
+    ("the plan's refusal, where 11 has a ground", 8, 11),
+    ("the plan's refusal, where 13 has a ground", 8, 13),
+    ("the plan's refusal, where 14 has a ground", 8, 14),
+];
+
 fn calls(of_the_gate: u64) -> u64 {
     env::var("PITSKELO_CALLS").map_or(of_the_gate, |number| number.parse().unwrap())
 }
@@ -133,9 +200,9 @@ fn agreed(seed: u64, call: &Call) -> Answer {
         .unwrap_or_else(|difference| panic!("seed {seed}, {difference}\n{call:02X?}"))
 }
 
-/// Makes the calls of the seeds from 0 on, counts what they met, and asserts that half of them are hostile and that each
-/// refusal up to the last, and what the floors say, is met often enough.
-fn make_calls(entry: Entry, calls: u64, last_refusal: usize, floors: &[(&str, u64)]) {
+/// Makes the calls of the seeds from 0 on, counts what they met, and asserts that half of them are
+/// hostile and that each refusal that the entry has, and what the floors say, is met often enough.
+fn make_calls(entry: Entry, calls: u64, floors: &[(&str, u64)]) {
     let mut met = Met::default();
     for seed in 0..calls {
         let Seeded { call, faults } = seeded(entry, seed);
@@ -147,12 +214,13 @@ fn make_calls(entry: Entry, calls: u64, last_refusal: usize, floors: &[(&str, u6
             Entry::Check | Entry::Analyse => {}
             Entry::Recover | Entry::PageRecover => count_recovery(&mut met, &call, result, &left),
             Entry::Run | Entry::PageRun => count_run(&mut met, seed, &call, result, &left),
+            Entry::Fold => count_fold(&mut met, &call, &faults, result, &left),
         }
     }
     print!("{met}");
     met.assert_floors_per("calls", &[("hostile calls", 500), ("accepted", 500)]);
-    for refusal in &RESULTS[1..=last_refusal] {
-        met.assert_floors_per("calls", &[(refusal, EACH_REFUSAL)]);
+    for refusal in entry.refusals() {
+        met.assert_floors_per("calls", &[(RESULTS[refusal], EACH_REFUSAL)]);
     }
     met.assert_floors_per("calls", floors);
 }
@@ -178,10 +246,25 @@ fn refusal_of(entry: Entry, fault: &str) -> Option<u32> {
     let mut of_state = FAULTS[..FAULTS.len() - 1].iter().chain(&FAULTS_OF_PAGES);
     match (fault, entry) {
         ("a save that fits but for its filling", _) => Some(10),
+        (_, Entry::Fold) => refusal_of_fold(fault),
         // A run may find that the state does not fit the chip.
         ("a chip that is no whole pages", Entry::PageRecover) => Some(11),
         ("filling with a wrong byte", _) => Some(12),
         _ => of_state.any(|(name, _)| *name == fault).then_some(10),
+    }
+}
+
+/// The same of a fold; an altered chip may be sound.
+fn refusal_of_fold(fault: &str) -> Option<u32> {
+    match fault {
+        "too few words of DE and RO" => Some(9),
+        "a chip that is too long" | "a new chip that is too long" => Some(11),
+        "a wrong byte before the number"
+        | "a wrong byte behind the number"
+        | "a number that is too high"
+        | "a number that is too low" => Some(13),
+        "a new chip that is too short" => Some(14),
+        _ => None,
     }
 }
 
@@ -308,32 +391,132 @@ fn count_stretches(met: &mut Met, left: &Call) {
     count_all(met, &named);
 }
 
+fn count_fold(met: &mut Met, call: &Call, faults: &[&'static str], result: u32, left: &Call) {
+    count_lent(met, call);
+    count_both(met, faults, result);
+    let (old, new) = (call.chip.len(), call.new_chip.len());
+    let named = [
+        ("a null new chip", call.nulls && new == 0),
+        ("old chips of 65,537 bytes", old == MAX_CHIP + 1),
+        ("new chips of 65,537 bytes", new == MAX_CHIP + 1),
+        ("old chips of 65,536 bytes", old == MAX_CHIP),
+        ("new chips of 65,536 bytes", new == MAX_CHIP),
+        ("numbers of 2^32 or more", call.stored >= 1 << 32),
+        ("numbers of 2^64 - 1", call.stored == u64::MAX),
+        ("budgets of 2^32 or more", call.budget >= 1 << 32),
+        ("budgets of 2^64 - 1", call.budget == u64::MAX),
+    ];
+    count_all(met, &named);
+    if result == 0 {
+        let held = read(call.plan.lent(), call.chip.lent(), BYTE_CHIP);
+        let held = held.expect("the old chip is sound");
+        count_old(met, &held);
+        let save = folded(&held).map_or(vec![], |save| save.bytes());
+        count_stored(met, call, left, &save);
+    }
+}
+
+/// Counts two faults of which the one with the lower refusal shows.
+fn count_both(met: &mut Met, faults: &[&'static str], result: u32) {
+    let refusal = |fault: &str| match fault {
+        "an altered plan" => Some(8),
+        "an altered chip" => Some(12),
+        _ => refusal_of_fold(fault),
+    };
+    let mut refusals: Vec<u32> = faults.iter().filter_map(|fault| refusal(fault)).collect();
+    refusals.sort_unstable();
+    for (name, first, second) in BOTH {
+        // Each of 1 to 8 is the plan's.
+        let is_met = refusals == [first, second] && result.max(8) == first;
+        met.add(name, u64::from(is_met));
+    }
+}
+
+/// Counts what an accepted fold did of the save.
+fn count_stored(met: &mut Met, call: &Call, left: &Call, save: &[u8]) {
+    let (before, after) = (call.stored as usize, left.folded().stored as usize);
+    let new = call.new_chip.lent();
+    let (is_empty, no_budget) = (save.is_empty(), call.budget == 0);
+    let is_finished = after == save.len();
+    let is_spent = !no_budget && (after - before) as u64 == call.budget;
+    let in_one = is_finished && before == 0 && !is_empty;
+    let ends_with_ff = before > 0 && save[before - 1] == ERASED;
+    let named = [
+        ("folds that are finished", is_finished),
+        ("folds that are not finished", !is_finished),
+        ("folds finished in one call", in_one),
+        ("folds finished with the budget", is_finished && is_spent),
+        ("folds that lack one byte", after + 1 == save.len()),
+        ("no budget and not finished", no_budget && !is_finished),
+        (
+            "no budget at the end",
+            no_budget && is_finished && !is_empty,
+        ),
+        ("folds of an empty save", is_empty),
+        ("saves of 256 records", save.len() == 6 * 256 + 14),
+        ("FF within the save", save.contains(&ERASED)),
+        ("numbers that FF leaves open", ends_with_ff),
+        (
+            "new chips as long as the save",
+            new.len() == save.len() && !is_empty,
+        ),
+    ];
+    count_all(met, &named);
+}
+
+/// Counts what the old chip of an accepted fold holds.
+fn count_old(met: &mut Met, held: &Chip) {
+    let records = || held.saves.iter().flat_map(|save| &save.records);
+    let mut times = [0; 256];
+    for (cell, _) in records() {
+        times[usize::from(*cell)] += 1;
+    }
+    let is_rising = |save: &Save| save.records.is_sorted();
+    let named = [
+        ("old chips with torn bytes", held.torn > 0),
+        ("old chips of several saves", held.saves.len() > 1),
+        (
+            "old chips with a cell saved twice",
+            times.iter().any(|&times| times > 1),
+        ),
+        (
+            "old chips with a cell of value 0",
+            records().any(|(cell, _)| held.value(*cell) == 0),
+        ),
+        (
+            "old chips with records that do not rise",
+            !held.saves.iter().all(is_rising),
+        ),
+    ];
+    count_all(met, &named);
+}
+
 #[test]
 fn checks() {
-    make_calls(Entry::Check, calls(200_000), 8, &[]);
+    make_calls(Entry::Check, calls(200_000), &[]);
 }
 
 #[test]
 fn analyses() {
-    make_calls(Entry::Analyse, calls(25_000), 9, &[]);
+    make_calls(Entry::Analyse, calls(25_000), &[]);
 }
 
 #[test]
 fn recoveries() {
-    make_calls(Entry::Recover, calls(200_000), 12, &OF_RECOVERIES);
+    make_calls(Entry::Recover, calls(200_000), &OF_RECOVERIES);
 }
 
 #[test]
 fn runs() {
     let mut floors = OF_RUNS.to_vec();
     floors.extend(FAULTS.map(|(name, _)| (name, 3)));
-    make_calls(Entry::Run, calls(200_000), 11, &floors);
+    make_calls(Entry::Run, calls(200_000), &floors);
 }
 
 #[test]
 fn page_recoveries() {
     let floors = [&OF_RECOVERIES[..], &OF_PAGE_RECOVERIES, &LENGTHS].concat();
-    make_calls(Entry::PageRecover, calls(200_000), 12, &floors);
+    make_calls(Entry::PageRecover, calls(200_000), &floors);
 }
 
 #[test]
@@ -341,7 +524,56 @@ fn page_runs() {
     let mut floors = [&OF_RUNS[..], &OF_PAGE_RUNS, &LENGTHS].concat();
     floors.extend(FAULTS.map(|(name, _)| (name, 2)));
     floors.extend(FAULTS_OF_PAGES.map(|(name, _)| (name, 2)));
-    make_calls(Entry::PageRun, calls(200_000), 11, &floors);
+    make_calls(Entry::PageRun, calls(200_000), &floors);
+}
+
+#[test]
+fn folds() {
+    let mut floors = OF_FOLDS.to_vec();
+    floors.extend(BOTH.map(|(name, ..)| (name, 1)));
+    make_calls(Entry::Fold, calls(200_000), &floors);
+}
+
+/// The reference as an engine with an error, as one who answers folds.
+struct Misfold(Altered<claim::Reference>);
+
+impl Callee for Misfold {
+    fn answer(&self, call: &mut Call) -> u32 {
+        let answer = self.0.fold(LentFold {
+            plan: call.plan.lent(),
+            sets: &words(call.sets.lent()),
+            old: call.chip.lend(),
+            new: call.new_chip.lend(),
+            stored: call.stored,
+            budget: call.budget,
+        });
+        if let Ok(folded) = answer {
+            call.numbers[0] = folded.stored;
+            set_lower(&mut call.numbers[1], folded.finished.into());
+        }
+        answer.err().unwrap_or(0)
+    }
+}
+
+/// Recovery takes records in any order and of any value, so no list finds the first two of these.
+#[test]
+fn errors_of_folds_are_found() {
+    for alter in [
+        Alter::FoldFalling,
+        Alter::FoldZeros,
+        Alter::FoldDropsLast,
+        Alter::FoldFirstMark,
+        Alter::FoldFirstValues,
+        Alter::FoldTorn,
+        Alter::FoldEndsEarly,
+    ] {
+        let engine = claim::Reference;
+        let callee = Misfold(Altered { engine, alter });
+        let differs = |seed: &u64| agree(&callee, &seeded(Entry::Fold, *seed).call).is_err();
+        let found = (0..1_000).filter(differs).count();
+        println!("{alter:?}: {found} of 1000 calls");
+        assert!(found >= 20, "{alter:?}: {found}");
+    }
 }
 
 /// Where an answer is made wrong: in the result, in a number, or in a byte of a buffer or around it.
@@ -385,14 +617,7 @@ impl Spot {
 /// The calls above fail on any wrong byte: in each spot of some answers a bit is altered, and the difference is found.
 #[test]
 fn a_wrong_bit_anywhere_is_found() {
-    for entry in [
-        Entry::Check,
-        Entry::Analyse,
-        Entry::Recover,
-        Entry::Run,
-        Entry::PageRecover,
-        Entry::PageRun,
-    ] {
+    for entry in Entry::ALL {
         // Calls without a fault and hostile ones.
         for seed in 0..4 {
             let call = seeded(entry, seed).call;

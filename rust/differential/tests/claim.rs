@@ -1,21 +1,24 @@
-//! Document 01's demand 3 on the library, through C, over random lists of calls for either kind of chip, and over lists
-//! that go over the two days of document 02's request Q-3; and that the same lists find altered engines, so that the
-//! watch over this library is seen to be awake. `CLAIM_LISTS` sets how many lists of each kind there are.
+//! Document 01's demand 3 on the library, through C, over random lists of calls for either kind of
+//! chip, over lists that go over the two days of document 02's request Q-3, and over lists with
+//! folds, of its request Q-6; and that the same lists find altered engines, so that the watch over
+//! this library is seen to be awake. `CLAIM_LISTS` sets how many lists of each kind there are.
 
 use std::env;
 
 use claim::altered::{Alter, Altered};
-use claim::{watch_list, watch_lists, Days, Engine, Met};
+use claim::{watch_list, watch_lists, Days, Engine, Met, Sort};
 use differential::call::Library;
 use reference::journal::{BYTE_CHIP, PAGE_CHIP};
 
 /// The lists for the library and each kind of chip, unless `CLAIM_LISTS` says another number.
 const LISTS: u64 = 100_000;
 
-/// One list over two days for so many of one day.
+/// One list over two days, or with folds, for so many of one day and without.
 const OF_ONE_DAY: u64 = 10;
 
 const KINDS: [usize; 2] = [BYTE_CHIP, PAGE_CHIP];
+
+const ALL_DAYS: [Days; 3] = [Days::Today, Days::Change, Days::Either];
 
 /// The lists within which an altered engine must be caught.
 const FEW: u64 = 300;
@@ -28,27 +31,40 @@ fn lists() -> u64 {
 }
 
 #[track_caller]
-fn keeps_the_claim(engine: &(impl Engine + Sync), days: Days, lists: u64) {
+fn keeps_the_claim(engine: &(impl Engine + Sync), sort: Sort, lists: u64) {
+    let mut met = Met::default();
+    if let Err((seed, violation)) = watch_lists(engine, sort, 0..lists, &mut met) {
+        panic!("{sort}, seed {seed}: {violation}");
+    }
+    println!("Lists of {sort}:");
+    print!("{met}");
+    met.assert_floors(sort);
+}
+
+/// As `keeps_the_claim`, for each kind of chip.
+#[track_caller]
+fn kinds_keep_the_claim(engine: &(impl Engine + Sync), days: Days, lists: u64) {
     for page in KINDS {
-        let mut met = Met::default();
-        if let Err((seed, violation)) = watch_lists(engine, days, page, 0..lists, &mut met) {
-            panic!("{days:?}, pages of {page}, seed {seed}: {violation}");
-        }
-        println!("Lists of {days:?} for chips with pages of {page}:");
-        print!("{met}");
-        met.assert_floors(days, page);
+        keeps_the_claim(engine, Sort::of(days, page), lists);
     }
 }
 
 #[test]
 fn the_library_keeps_the_claim() {
-    keeps_the_claim(&Library, Days::Today, lists());
+    kinds_keep_the_claim(&Library, Days::Today, lists());
 }
 
 #[test]
 fn lists_over_two_days_keep_the_claim() {
     for days in [Days::Change, Days::Either] {
-        keeps_the_claim(&Library, days, lists() / OF_ONE_DAY);
+        kinds_keep_the_claim(&Library, days, lists() / OF_ONE_DAY);
+    }
+}
+
+#[test]
+fn lists_with_folds_keep_the_claim() {
+    for days in ALL_DAYS {
+        keeps_the_claim(&Library, Sort::folding(days), lists() / OF_ONE_DAY);
     }
 }
 
@@ -61,26 +77,27 @@ fn altered(alter: Alter) -> Altered<Library> {
 
 #[test]
 fn the_wrapper_alone_keeps_the_claim() {
-    for days in [Days::Today, Days::Change, Days::Either] {
-        keeps_the_claim(&altered(Alter::Nothing), days, FEW);
+    for days in ALL_DAYS {
+        let engine = altered(Alter::Nothing);
+        kinds_keep_the_claim(&engine, days, FEW);
+        keeps_the_claim(&engine, Sort::folding(days), FEW);
     }
 }
 
-/// Asserts that the lists of these days for chips of a page length find the alteration.
+/// Asserts that the lists of this sort find the alteration.
 #[track_caller]
-fn caught(alter: Alter, days: Days, page: usize) {
+fn caught(alter: Alter, sort: Sort) {
     let engine = altered(alter);
-    let few = match days {
+    let few = match sort.days {
         Days::Today => FEW,
         Days::Change | Days::Either => FEW_OVER_TWO_DAYS,
     };
     let found = (0..few).find_map(|seed| {
-        let violation = watch_list(&engine, days, page, seed, &mut Met::default()).err()?;
+        let violation = watch_list(&engine, sort, seed, &mut Met::default()).err()?;
         Some((seed, violation))
     });
-    let (seed, violation) =
-        found.unwrap_or_else(|| panic!("{alter:?}, {days:?}, pages of {page}, is not caught"));
-    println!("{alter:?}, {days:?}, pages of {page}, seed {seed}: {violation}");
+    let (seed, violation) = found.unwrap_or_else(|| panic!("{alter:?}, {sort}, is not caught"));
+    println!("{alter:?}, {sort}, seed {seed}: {violation}");
 }
 
 #[test]
@@ -101,7 +118,7 @@ fn alterations_are_caught() {
         Alter::InventsAStep,
     ] {
         for page in KINDS {
-            caught(alter, Days::Today, page);
+            caught(alter, Sort::of(Days::Today, page));
         }
     }
     for alter in [
@@ -110,7 +127,7 @@ fn alterations_are_caught() {
         Alter::GoesOnBehindMark,
         Alter::GoesOnPageLater,
     ] {
-        caught(alter, Days::Today, PAGE_CHIP);
+        caught(alter, Sort::of(Days::Today, PAGE_CHIP));
     }
 }
 
@@ -124,8 +141,27 @@ fn alterations_are_caught_over_two_days() {
         Alter::RefusesDeadCells,
     ] {
         for page in KINDS {
-            caught(alter, Days::Change, page);
-            caught(alter, Days::Either, page);
+            caught(alter, Sort::of(Days::Change, page));
+            caught(alter, Sort::of(Days::Either, page));
+        }
+    }
+}
+
+#[test]
+fn alterations_of_folds_are_caught() {
+    for alter in [
+        Alter::FoldDropsLast,
+        Alter::FoldFirstMark,
+        Alter::FoldFirstValues,
+        Alter::FoldTorn,
+        Alter::FoldEndsEarly,
+        Alter::FoldErasesOld,
+        Alter::FoldOverspends,
+        Alter::FoldRefusesBegun,
+        Alter::FoldNeverEnds,
+    ] {
+        for days in ALL_DAYS {
+            caught(alter, Sort::folding(days));
         }
     }
 }

@@ -1,6 +1,6 @@
 /*
- * Checks, analyses, recovers and runs the plan on standard input, on either kind of chip, then what
- * is refused, and prints what the calls give.
+ * Checks, analyses, recovers and runs the plan on standard input, on either kind of chip, folds a
+ * byte chip, then what is refused, and prints what the calls give.
  */
 
 /* First, so that the header is seen to need nothing before it. */
@@ -14,6 +14,9 @@ static uint32_t (*const check)(const uint8_t *, size_t,
                                uint32_t *, uint32_t *, uint32_t *) = pitskelo_check;
 static uint32_t (*const analyse)(const uint8_t *, size_t,
                                  uint8_t *, size_t, uint8_t *, size_t) = pitskelo_analyse;
+static uint32_t (*const fold)(const uint8_t *, size_t, const uint8_t *, size_t,
+                              const uint8_t *, size_t, uint8_t *, size_t, uint64_t, uint64_t,
+                              uint64_t *, uint32_t *) = pitskelo_fold;
 
 /* A kind of chip: what stands before the names of its calls, and these. */
 struct kind {
@@ -32,7 +35,7 @@ static const struct kind page_chip = {"page ", pitskelo_page_recover, pitskelo_p
 /* The kind that is called. */
 static const struct kind *kind;
 
-/* What the calls of recover and run share. */
+/* What the calls of recover, run and fold share. */
 static uint8_t plan[PITSKELO_PLAN_MAX], sets[PITSKELO_SETS_SIZE], state[PITSKELO_STATE_SIZE];
 static size_t plan_len;
 
@@ -177,6 +180,49 @@ static void refuse_pages(void)
     print_recover("filled with 00", sizeof sets, chip, PITSKELO_PAGE_SIZE, sizeof state);
 }
 
+/* Prints the result, the two numbers, and the new chip up to where FF begins. */
+static void print_fold(const char *name, size_t sets_len, const uint8_t *old_chip, size_t old_len,
+                       uint8_t *new_chip, size_t new_len, uint64_t stored, uint64_t budget)
+{
+    uint64_t now_stored = 1001;
+    uint32_t finished = 1002;
+    uint32_t result = fold(plan, plan_len, sets, sets_len, old_chip, old_len, new_chip, new_len,
+                           stored, budget, &now_stored, &finished);
+    size_t at;
+
+    printf("fold %s: %lu, %lu %lu,", name, (unsigned long)result, (unsigned long)now_stored,
+           (unsigned long)finished);
+    for (at = 0; at < new_len && new_chip[at] != 0xFF; at++)
+        printf(" %02X", new_chip[at]);
+    printf("\n");
+}
+
+/* Folds a chip in parts, and recovers from the new one. What is refused leaves that as it is. */
+static void fold_chip(void)
+{
+    static const uint8_t old_chip[] = {
+        0xA1, 0, 5, 0, 0, 0, 0xA2, 17, 0, 15, 0, 1, 0, 0, 0, 1, 0, 0, 0, 0x5A, 0xA1, 1,
+    };
+    static uint8_t long_chip[PITSKELO_CHIP_MAX + 1];
+    uint8_t new_chip[24];
+    size_t old_len = sizeof old_chip, new_len = sizeof new_chip;
+
+    memset(new_chip, 0xFF, sizeof new_chip);
+    memset(long_chip, 0xFF, sizeof long_chip);
+    print_fold("no save", sizeof sets, NULL, 0, NULL, 0, 0, 1000);
+    print_fold("no budget", sizeof sets, old_chip, old_len, new_chip, new_len, 0, 0);
+    print_fold("some bytes", sizeof sets, old_chip, old_len, new_chip, new_len, 0, 7);
+    print_fold("short sets", sizeof sets - 1, old_chip, old_len, new_chip, new_len, 7, 1000);
+    print_fold("long chip", sizeof sets, long_chip, sizeof long_chip, new_chip, new_len, 7, 1000);
+    print_fold("damaged", sizeof sets, old_chip + 1, old_len - 1, new_chip, new_len, 7, 1000);
+    print_fold("other number", sizeof sets, old_chip, old_len, new_chip, new_len, 8, 1000);
+    print_fold("short chip", sizeof sets, old_chip, old_len, new_chip, 19, 7, 1000);
+    print_fold("the rest", sizeof sets, old_chip, old_len, new_chip, new_len, 7, 1000);
+    print_fold("again", sizeof sets, old_chip, old_len, new_chip, new_len, 20, 0);
+    print_recover("old", sizeof sets, old_chip, old_len, sizeof state);
+    print_recover("new", sizeof sets, new_chip, new_len, sizeof state);
+}
+
 int main(void)
 {
     static const uint8_t unknown[] = {0x00, 0x7F};
@@ -191,6 +237,7 @@ int main(void)
     kind = &byte_chip;
     recover_and_run(20, 20, 33);
     refuse();
+    fold_chip();
     kind = &page_chip;
     recover_and_run(32, 2, 48);
     refuse();

@@ -20,7 +20,7 @@ fn must_succeed(what: &str, output: &Output) {
     );
 }
 
-/// What the program prints, on either kind of chip.
+/// What the program prints: for a byte chip, which it folds too, and then for a page chip.
 const PRINTED: &str = "check input: 0, 3 7 1\n\
      check unknown: 2, 1001 1002 1003\n\
      check null: 1, 1001 1002 1003\n\
@@ -43,6 +43,18 @@ const PRINTED: &str = "check input: 0, 3 7 1\n\
      recover null: 0, 0, 1 0 0 0 0 0 0 0\n\
      run long chip: 11, 1001 1002 1003 1004,\n\
      run past the end: 10, 1001 1002 1003 1004,\n\
+     fold no save: 0, 0 1,\n\
+     fold no budget: 0, 0 0,\n\
+     fold some bytes: 0, 7 0, A1 00 05 00 00 00 A2\n\
+     fold short sets: 9, 1001 1002, A1 00 05 00 00 00 A2\n\
+     fold long chip: 11, 1001 1002, A1 00 05 00 00 00 A2\n\
+     fold damaged: 12, 1001 1002, A1 00 05 00 00 00 A2\n\
+     fold other number: 13, 1001 1002, A1 00 05 00 00 00 A2\n\
+     fold short chip: 14, 1001 1002, A1 00 05 00 00 00 A2\n\
+     fold the rest: 0, 20 1, A1 00 05 00 00 00 A2 11 00 0F 00 01 00 00 00 01 00 00 00 5A\n\
+     fold again: 0, 20 1, A1 00 05 00 00 00 A2 11 00 0F 00 01 00 00 00 01 00 00 00 5A\n\
+     recover old: 0, 5, 17 15 1 1 0 20 2 0\n\
+     recover new: 0, 5, 17 15 1 1 0 20 0 0\n\
      page recover erased: 0, 0, 1 0 0 0 0 0 0 0\n\
      page run no room: 0, 6 3 1 0,\n\
      page run some steps: 0, 4 6 0 1, 5\n\

@@ -4,6 +4,7 @@
 
 pub mod analysis;
 pub mod check;
+pub mod folding;
 pub mod journal;
 pub mod layout;
 pub mod listing;
@@ -15,5 +16,6 @@ pub mod uncut;
 
 pub use analysis::{analyse, analyse_until, Analysis, Set};
 pub use check::{check, Checked};
+pub use folding::fold;
 pub use listing::listing;
 pub use machine::Machine;

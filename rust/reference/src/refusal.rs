@@ -1,4 +1,4 @@
-//! The numbers of document 01's table of refused inputs.
+//! The numbers of document 01's table of refused inputs, and those that document 02 adds.
 
 /// The plan is empty or over 2,048 bytes.
 pub const PLAN_LENGTH: u32 = 1;
@@ -24,3 +24,7 @@ pub const STATE_NOT_SOUND: u32 = 10;
 pub const CHIP_LENGTH: u32 = 11;
 /// The chip is damaged.
 pub const CHIP_DAMAGED: u32 = 12;
+/// The new chip of a fold is other than so many bytes of the save and then FF.
+pub const NEW_CHIP_DIFFERS: u32 = 13;
+/// The save of a fold is longer than the new chip.
+pub const SAVE_TOO_LONG: u32 = 14;

@@ -1,6 +1,6 @@
 -- `journal::walk` meets its contract. The invariant: the checkpoints up to `at` are whole and sound, and seen and values are as they leave them (`Walking`).
 -- Assumes nothing.
-use mathlib.Core.Path.{refl, ap}
+use mathlib.Core.Path.{refl, _∙_, ap}
 use Prim.Native.Nat.{ℕ, _+_, _-_}
 use native.Mathlib.Omega.{arith}
 use lib.ListN.{length}
@@ -9,7 +9,7 @@ use borrow.Author.Tests.{not-true, not-false}
 use Rattle.journal.specs.Format.{formatOf}
 use Rattle.journal.specs.Answer.{factsIn}
 use Rattle.journal.proofs.Meeting.{decides-yes, decides-no}
-use Rattle.journal.proofs.Walking.{Walking, blank, walking-first, walking-most, walking-turn, walking-cut, walking-bad, walking-filling, walking-done}
+use Rattle.journal.proofs.Walking.{Walking, blank, walking-first, walking-most, walking-turn, walking-cut, walking-bad, walking-fill, walking-filling, walking-done}
 use Rattle.journal.proofs.Walking.{walk-found, walk-damaged}
 use Rattle.journal.proofs.walk.Statement.{statement}
 use Rattle.journal.proofs.walk.Tie as tie
@@ -44,53 +44,70 @@ tail-at-requires c κs =
 enum-told : tie.Need-enum-told Inv-loop μ-loop
 enum-told c = search needs
 
-restore-requires : tie.Need-restore-requires Inv-loop μ-loop
-restore-requires c κs =
-    let p = c .before .before .before .before .before .records-end .ensures in
-    (p .most, c .before .before .before .before .before .before .before .before .before .before .pre .0, omega (arith, p .end-is), c .before .before .before .before .before .before .before .before .loop .inv .cells)
-
+-- where a whole checkpoint was told, its end is within the chip, and the chip no longer than it may be
 add-commit-at : tie.Need-add-commit-at Inv-loop μ-loop
-add-commit-at c = omega (arith, c .before .before .before .before .before .before .records-end .ensures .most, c .before .before .before .before .before .before .before .before .before .before .before .pre .0)
+add-commit-at c = omega (arith, c .before .before .before .before .records-end .ensures .most, c .before .before .before .before .before .before .before .before .before .pre .0)
 
 commit-at-requires : tie.Need-commit-at-requires Inv-loop μ-loop
-commit-at-requires c κs = omega (arith, walking-most (c .before .before .before .before .before .before .before .before .before .loop .inv) (c .before .before .before .before .before .before .records-end .ensures) (c .before .before .before .before .tail-at .ensures _) (c .before .before .enum-told .given .1))
+commit-at-requires c κs =
+    omega (arith, walking-most (c .before .before .before .before .before .before .before .loop .inv) (c .before .before .before .before .records-end .ensures) (c .before .before .tail-at .ensures _) (c .enum-told .given .1))
 
 add-end : tie.Need-add-end Inv-loop μ-loop
-add-end c = omega (arith, c .before .before .before .before .before .before .before .records-end .ensures .most, c .before .before .before .before .before .before .before .before .before .before .before .before .pre .0)
-
-sub-fill : tie.Need-sub-fill Inv-loop μ-loop
-sub-fill c = omega (arith, c .before .before .before .before .before .before .before .records-end .ensures .end-is)
+add-end c =
+    let e = c .before in
+    omega (arith, e .before .before .before .before .records-end .ensures .most, e .before .before .before .before .before .before .before .before .before .pre .0)
 
 fill-requires : tie.Need-fill-requires Inv-loop μ-loop
-fill-requires c κs = c .before .before .before .before .before .before .before .before .before .before .before .before .pre .2
+fill-requires c κs = c .before .before .before .before .before .before .before .before .before .before .pre .2
 
 add-next : tie.Need-add-next Inv-loop μ-loop
-add-next c = omega (arith, c .before .before .before .before .before .before .before .before .records-end .ensures .most, c .before .before .before .before .before .before .before .before .before .before .before .before .before .pre .0, c .before .before .before .before .before .before .before .before .before .before .before .before .before .pre .3, c .fill .ensures .1)
+add-next c =
+    let e = c .before .before in
+    let h = e .before .before .before .before .before .before .before .before .before .pre in
+    omega (arith, e .before .before .before .before .records-end .ensures .most, h .0, h .3, c .fill .ensures .1)
 
 is-erased-requires : tie.Need-is-erased-requires Inv-loop μ-loop
-is-erased-requires c κs = omega (arith, c .before .before .before .before .before .before .before .before .records-end .ensures .most, c .before .before .before .before .before .before .before .before .before .before .before .before .before .pre .0, c .before .before .before .before .before .before .before .before .before .before .before .before .before .pre .3, c .fill .ensures .1)
+is-erased-requires c κs =
+    let e = c .before .before in
+    let h = e .before .before .before .before .before .before .before .before .before .pre in
+    omega (arith, e .before .before .before .before .records-end .ensures .most, h .0, h .3, c .fill .ensures .1)
 
 refused-requires : tie.Need-refused-requires Inv-loop μ-loop
 refused-requires c κs = search needs
 
 returns : tie.Need-returns Inv-loop μ-loop
 returns c =
-    let i = c .before .before .before .before .before .before .before .before .before .before .before .records-end .result in
+    let e = c .before .before .before .before .before in
+    let w = e .before .before .before .before .before .before .before .loop .inv in
+    let p = e .before .before .before .before .records-end in
+    let h = e .before .before .before .before .before .before .before .before .before .pre in
     let d = c .before .before .is-erased in
     walk-damaged (c .refused .ensures)
-    (walking-filling (c .before .before .before .before .before .before .before .before .before .before .before .before .before .before .loop .inv) (c .before .before .before .before .before .before .before .before .before .before .before .records-end .ensures) (c .before .before .before .before .before .before .before .before .before .tail-at .ensures _) (c .before .before .before .before .before .before .before .enum-told .given .1) (c .before .before .before .before .before .before .before .before .before .before .before .before .before .loop-test .taken) (ap (λ (k : ℕ). i + 14 + k) (c .before .before .before .fill .ensures .0))
+    (walking-filling w (p .ensures) (e .before .before .tail-at .ensures _) (e .enum-told .given .1) (e .before .before .before .before .before .before .loop-test .taken)
+    (ap (λ (k : ℕ). p .result + 14 + k) (c .before .before .before .fill .ensures .0 ∙ walking-fill w (p .ensures) (h .2)))
     (decides-no (d .result) (not-true (d .result) (c .before .if1 .taken)) (d .ensures)))
 
+restore-requires : tie.Need-restore-requires Inv-loop μ-loop
+restore-requires c κs =
+    let e = c .before .before .before .before .before in
+    let p = e .before .before .before .before .records-end .ensures in
+    (p .most, e .before .before .before .before .before .before .before .before .before .pre .0, omega (arith, p .end-is), e .before .before .before .before .before .before .before .loop .inv .cells)
+
 loop-less : tie.Need-loop-less Inv-loop μ-loop
-loop-less c = omega (arith, c .before .before .before .before .before .before .before .before .before .before .records-end .ensures .end-is, c .before .before .before .before .before .before .before .before .before .before .before .before .loop-test .taken)
+loop-less c =
+    let e = c .before .before .before .before .before .before in
+    omega (arith, e .before .before .before .before .records-end .ensures .end-is, e .before .before .before .before .before .before .loop-test .taken)
 
 loop-again : tie.Need-loop-again Inv-loop μ-loop
 loop-again c =
-    let i = c .before .before .before .before .before .before .before .before .before .before .records-end .result in
-    let d = c .before .is-erased in
-    let h = c .before .before .before .before .before .before .before .before .before .before .before .before .before .before .before .pre in
-    walking-turn (c .before .before .before .before .before .before .before .before .before .before .before .before .before .loop .inv) (c .before .before .before .before .before .before .before .before .before .before .records-end .ensures) (c .before .before .before .before .before .before .before .before .tail-at .ensures _) (c .before .before .before .before .before .before .enum-told .given .1) (h .1) (c .before .before .before .before .before .before .before .before .before .before .before .before .loop-test .taken) (h .2)
-    (ap (λ (k : ℕ). i + 14 + k) (c .before .before .fill .ensures .0)) (decides-yes (d .result) (not-false (d .result) (c .if1 .left)) (d .ensures)) (c .before .before .before .before .restore .ensures) (c .before .before .before .commit-at .ensures)
+    let e = c .before .before .before .before .before .before in
+    let w = e .before .before .before .before .before .before .before .loop .inv in
+    let p = e .before .before .before .before .records-end in
+    let h = e .before .before .before .before .before .before .before .before .before .pre in
+    let d = c .before .before .before .is-erased in
+    walking-turn w (p .ensures) (e .before .before .tail-at .ensures _) (e .enum-told .given .1) (h .1) (e .before .before .before .before .before .before .loop-test .taken) (h .2)
+    (ap (λ (k : ℕ). p .result + 14 + k) (c .before .before .before .before .fill .ensures .0 ∙ walking-fill w (p .ensures) (h .2)))
+    (decides-yes (d .result) (not-false (d .result) (c .before .before .if1 .left)) (d .ensures)) (c .restore .ensures) (c .before .before .before .before .before .commit-at .ensures)
 
 enum-told-2 : tie.Need-enum-told-2 Inv-loop μ-loop
 enum-told-2 c = search needs
@@ -145,16 +162,15 @@ walk-spec =
     add-tail-at
     tail-at-requires
     enum-told
-    restore-requires
     add-commit-at
     commit-at-requires
     add-end
-    sub-fill
     fill-requires
     add-next
     is-erased-requires
     refused-requires
     returns
+    restore-requires
     loop-less
     loop-again
     enum-told-2

@@ -1,4 +1,5 @@
-//! A board: a host, and the files that stand for its plan, its readings and its chip.
+//! A board: a host, and the files that stand for its plan, its readings and its chip; and a blank
+//! chip onto which that is folded.
 
 use std::fs;
 use std::os::unix::process::ExitStatusExt;
@@ -20,15 +21,17 @@ pub struct Board {
     pub page: usize,
 }
 
-/// When the host is killed.
+/// When the host or the fold tool is killed.
 #[derive(Clone, Copy)]
 pub enum Cut {
     Never,
     /// From outside, so long after its start.
     After(Duration),
-    /// From outside, as soon as so many bytes of the chip are seen to differ from what they were at its start.
+    /// From outside, as soon as so many bytes of the chip are seen to differ from what they were at
+    /// its start.
     Changed(usize),
-    /// By itself, before the chip byte, page or flush of this number (a host of `building::cut_host`).
+    /// By itself, before the chip byte, page or flush of this number (one of `building::cut_host`
+    /// or `building::cut_fold_tool`).
     Before(usize),
 }
 
@@ -83,7 +86,16 @@ impl Board {
     }
 
     pub fn chip(&self) -> Vec<u8> {
-        fs::read(self.folder.join("chip")).expect("the chip can be read")
+        self.read("chip")
+    }
+
+    /// Puts a chip beside the board's, to be folded onto.
+    pub fn set_new_chip(&self, chip: &[u8]) {
+        self.write("new", chip);
+    }
+
+    pub fn new_chip(&self) -> Vec<u8> {
+        self.read("new")
     }
 
     /// What the chip holds, as the reference reads it, or its refusal.
@@ -91,15 +103,28 @@ impl Board {
         journal::read(&self.plan, &self.chip(), self.page)
     }
 
-    /// Starts the host once, with a pause of so many microseconds for each chip byte: a page takes as long as its bytes.
+    /// Starts the host once, with a pause of so many microseconds for each chip byte: a page takes
+    /// as long as its bytes.
     pub fn start(&self, pause: u32, cut: Cut) -> Life {
         let mut command = self.command(&self.host, &[]);
         command.arg((pause * self.page as u32).to_string());
+        self.live(command, "chip", cut)
+    }
+
+    /// Starts the fold tool once, which folds the board's chip onto the new one.
+    pub fn fold(&self, tool: &Path, pause: u32, cut: Cut) -> End {
+        let mut command = self.in_folder(tool);
+        command.args(["plan", "chip", "new"]).arg(pause.to_string());
+        self.live(command, "new", cut).end
+    }
+
+    /// Lets a program live that writes to this chip, until it ends or is killed.
+    fn live(&self, mut command: Command, chip: &str, cut: Cut) -> Life {
         if let Cut::Before(event) = cut {
             command.env("PITSKELO_CUT", event.to_string());
         }
-        let before = self.chip();
-        let mut child = command.spawn().expect("the host can be started");
+        let before = self.read(chip);
+        let mut child = command.spawn().expect("the program can be started");
         match cut {
             Cut::Never | Cut::Before(_) => {}
             Cut::After(delay) => {
@@ -107,11 +132,11 @@ impl Board {
                 kill(&mut child);
             }
             Cut::Changed(bytes) => {
-                self.watch(&mut child, &before, bytes);
+                self.watch(&mut child, chip, &before, bytes);
                 kill(&mut child);
             }
         }
-        let output = child.wait_with_output().expect("the host ends");
+        let output = child.wait_with_output().expect("the program ends");
         Life::of(&output)
     }
 
@@ -122,10 +147,10 @@ impl Board {
         Life::of(&command.output().expect("the program can be started"))
     }
 
-    /// Waits until so many bytes of the chip have changed, or the host has ended.
-    fn watch(&self, child: &mut Child, before: &[u8], bytes: usize) {
+    /// Waits until so many bytes of the chip have changed, or the program has ended.
+    fn watch(&self, child: &mut Child, chip: &str, before: &[u8], bytes: usize) {
         let changed = || {
-            let now = self.chip();
+            let now = self.read(chip);
             before.iter().zip(&now).filter(|(b, n)| b != n).count()
         };
         while changed() < bytes && matches!(child.try_wait(), Ok(None)) {
@@ -134,12 +159,17 @@ impl Board {
     }
 
     fn command(&self, program: &Path, first: &[&str]) -> Command {
-        let mut command = Command::new(program);
+        let mut command = self.in_folder(program);
         command.args(first);
         if self.page == PAGE_CHIP {
             command.arg("-p");
         }
         command.args(["plan", "chip", "readings"]);
+        command
+    }
+
+    fn in_folder(&self, program: &Path) -> Command {
+        let mut command = Command::new(program);
         command.current_dir(&self.folder);
         command.stdin(Stdio::null());
         command.stdout(Stdio::piped());
@@ -147,12 +177,16 @@ impl Board {
         command
     }
 
+    fn read(&self, name: &str) -> Vec<u8> {
+        fs::read(self.folder.join(name)).expect("the board's files can be read")
+    }
+
     fn write(&self, name: &str, bytes: &[u8]) {
         fs::write(self.folder.join(name), bytes).expect("the board's files can be written");
     }
 }
 
-/// Kills the host, which may have ended by itself.
+/// Kills the program, which may have ended by itself.
 fn kill(child: &mut Child) {
     if let Err(error) = child.kill() {
         assert!(matches!(child.try_wait(), Ok(Some(_))), "{error}");

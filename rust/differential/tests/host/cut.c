@@ -1,8 +1,8 @@
 /*
- * Linked with the host so that its calls of pwrite and fflush come here (the linker's --wrap).
- * Kills the host just before the call that PITSKELO_CUT in the environment numbers, from 1 on.
- * Between two such calls the host does nothing that outlasts it, so these are all the cuts there
- * are.
+ * Linked with the host, or with the fold tool, so that its calls of pwrite and fflush come here
+ * (the linker's --wrap). Kills the program just before the call that PITSKELO_CUT in the
+ * environment numbers, from 1 on. Between two such calls it does nothing that outlasts it, so these
+ * are all the cuts there are.
  */
 
 /* For pwrite. */

@@ -1,8 +1,9 @@
-//! The example host, on either kind of chip: killed and started again, it loses no output. Hosts with mistakes do, and
-//! are caught.
+//! The example host, on either kind of chip: killed and started again, it loses no output. Hosts
+//! with mistakes do, and are caught. And the fold tool (`folding`).
 
 mod board;
 mod building;
+mod folding;
 mod trial;
 
 use std::path::Path;

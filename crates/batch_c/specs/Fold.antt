@@ -1,0 +1,76 @@
+-- Lists of calls of pitskelo_fold and cuts, over the bytes that they are lent: document 02, Q-6, of the calls of crate `pitskelo`.
+-- Assumes nothing.
+use Prim.Native.Nat.{ℕ, _+_, _-_, _≤_, min}
+use mathlib.Core.Path.{_≡_}
+use mathlib.Core.List.{List, _++_}
+use lib.ListN.{length, getD, take, drop, replicate}
+use Rattle.journal.specs.declared.Commit.{Commit}
+use Rattle.journal.specs.Answer.{Taken}
+use Rattle.step.specs.Ready.{Legal}
+use Rattle.folding.specs.Fold.{byteFacts, foldedBytes, Begun, numbersOf}
+use Rattle.layout.specs.Layout.{stateSize}
+use Rattle.pitskelo.specs.Runs.{RecoverCall}
+use Rattle.pitskelo.specs.Folds.{FoldLent, FoldLeft, FoldCall}
+
+-- a call is lent the plan, the old chip, and the new chip as it stands
+pub record Lends (p old new : List ℕ) (l : FoldLent) : Type 0 where
+  pub plan : l .plan ≡ p
+  pub old-is : l .old ≡ old
+  pub new-is : l .new ≡ new
+
+-- what calls bring a new chip of n bytes to, which is blank at first
+pub data FoldCalls (p old : List ℕ) (n : ℕ) : List ℕ → Type 0 where
+  blank : FoldCalls p old n (replicate n 0xFF)
+  -- a call, refused or not; the number is what the one before answered, or any that the host tries
+  calls : {new : List ℕ} → FoldCalls p old n new → (l : FoldLent) → Lends p old new l → (o : FoldLeft) → FoldCall l o → FoldCalls p old n (o .new)
+  -- a call with a budget that is cut: it ends as one with a budget of the steps done, and its answer is lost
+  cut : {new : List ℕ} → FoldCalls p old n new → (budget : ℕ) (l : FoldLent) → Lends p old new l → l .budget ≤ budget → (o : FoldLeft) → FoldCall l o
+      → FoldCalls p old n (o .new)
+  -- a refused call of any content
+  refused : {new : List ℕ} → FoldCalls p old n new → (l : FoldLent) → l .new ≡ new → (o : FoldLeft) → FoldCall l o → ¬ (o .result ≡ 0) → FoldCalls p old n (o .new)
+
+-- a call that is accepted and answers that it is finished: finished is the second of its numbers
+pub record Finishes (l : FoldLent) (o : FoldLeft) : Type 0 where
+  pub call : FoldCall l o
+  pub accepted : o .result ≡ 0
+  pub finished : getD (o .numbers) 1 0 ≡ 1
+
+-- "the same state except for write position and bytes to erase": PITSKELO_STATE_WRITE and PITSKELO_STATE_ERASE, four bytes each
+pub record SameBytes (a b : List ℕ) : Type 0 where
+  pub before : take 1300 a ≡ take 1300 b
+  pub behind : drop 1308 a ≡ drop 1308 b
+
+-- of an old chip whose save is `save`, and a new chip of n bytes that calls and cuts have brought to `new`
+pub record FoldClaim (p old save : List ℕ) (n : ℕ) (new : List ℕ) : Type 0 where
+  -- "A cut during folding leaves the new chip with a beginning of that save, or the whole."
+  pub size : length new ≡ n
+  pub stored : ℕ
+  pub most : stored ≤ length save
+  pub beginning : new ≡ take stored save ++ replicate (n - stored) 0xFF
+  -- "each call gets the number of bytes already stored": with any number that is right, on a chip long enough, it goes on
+  pub goes-on : (l : FoldLent) → Lends p old new l → n ≤ 65536 → length old ≤ 65536 → 4096 ≤ length (l .sets) → length save ≤ n → Begun save (l .stored) new
+      → (o : FoldLeft) → FoldCall l o
+      → (o .result ≡ 0) × (o .numbers ≡ numbersOf save (l .stored) (l .budget)) × Begun save (min (l .stored + l .budget) (length save)) (o .new)
+  -- finished, the new chip has the whole save
+  pub finishes : (l : FoldLent) → Lends p old new l → (o : FoldLeft) → Finishes l o
+      → (getD (o .numbers) 0 0 ≡ length save) × (o .new ≡ save ++ replicate (n - length save) 0xFF)
+  -- "recovering old or finished new must give the same state except for write position and bytes to erase"
+  pub recovers : (l : FoldLent) → Lends p old new l → (o : FoldLeft) → Finishes l o → (ws state left : List ℕ) → RecoverCall 1 p ws old state left 0
+      → (state′ left′ : List ℕ) (result : ℕ) → length state′ ≡ stateSize → RecoverCall 1 p ws (o .new) state′ left′ result → (result ≡ 0) × SameBytes left left′
+
+-- for every plan and old chip that is not damaged, and every list of calls and cuts
+abbrev pub Q6 : Type 0
+Q6 =
+    (p : List ℕ) → Legal p → (old : List ℕ) (end torn : ℕ) (last : Commit) (values : List ℕ) → Taken (byteFacts p) old end torn last values
+    → (n : ℕ) (new : List ℕ) → FoldCalls p old n new → FoldClaim p old (foldedBytes end values last) n new
+
+-- a chip that a list of calls and cuts on a blank one has come to, whose last call answered that it is finished
+pub record Finished (p old new : List ℕ) : Type 0 where
+  pub size : ℕ
+  pub chip : List ℕ
+  pub list : FoldCalls p old size chip
+  pub lent : FoldLent
+  pub lends : Lends p old chip lent
+  pub left : FoldLeft
+  pub last : Finishes lent left
+  pub new-is : left .new ≡ new
