@@ -9,12 +9,10 @@ use mathlib.Core.List.{List, [], _∷_, _++_}
 use mathlib.Core.Logic.{inl, inr}
 use native.Mathlib.Omega.{arith}
 use lib.IntN.{pos}
-use lib.ListN.{length, take, drop, replicate}
+use lib.ListN.{length, take, replicate}
 use Rattle.journal.specs.declared.Commit.{Commit}
-use Rattle.journal.specs.Format.{formatOf, image}
-use Rattle.journal.specs.Reading.{factsOf}
+use Rattle.journal.specs.Format.{image}
 use Rattle.journal.specs.Answer.{Taken}
-use Rattle.journal.specs.Shape.{Shape}
 use Rattle.journal.proofs.Torn.{trimmed-nil}
 use Rattle.journal.proofs.Back.{shape-whole, read-back}
 use Rattle.step.specs.State.{envOf}
@@ -22,9 +20,7 @@ use Rattle.folding.specs.declared.Folded.the-variants.{Stored, Refused}
 use Rattle.folding.specs.Fold as fold
 use Rattle.folding.specs.Fold.{byteFacts, heldFrom, foldedBytes, foldSteps, outcome, Begun, Puts, Folds}
 use Rattle.folding.specs.Lists.{Folding, Finished}
-use Rattle.folding.proofs.Beginning.{length-begun}
 use Rattle.restart.specs.History.{System, unused, ran, History, begins, recovers, runs}
-use Rattle.restart.specs.Claim.{Erased}
 use Rattle.restart.proofs.Outcomes.{valuesOf, values-some, outcome-is}
 use Rattle.restart.proofs.Computing.{computing}
 use Rattle.restart.proofs.Shaped.{shape-by}

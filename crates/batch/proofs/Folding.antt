@@ -5,6 +5,7 @@ use Prim.Native.Nat.{ℕ, _<_}
 use mathlib.Core.Path.{_≡_, refl, sym, _∙_, ap, subst}
 use mathlib.Core.Bool.{true, _&&_}
 use mathlib.Core.List.{List, []}
+use mathlib.Core.Logic.{⊎-elim}
 use native.Mathlib.Omega.{arith}
 use lib.ListN.{length}
 use lib.Dec.{ltb}
@@ -18,9 +19,9 @@ use Rattle.journal.proofs.Back.{shape-reads, read-shape, read-back, not-damaged
 use Rattle.step.specs.State.{envOf}
 use Rattle.step.specs.Ready.{Legal}
 use Rattle.folding.specs.declared.Folded.the-variants.{Refused}
-use Rattle.folding.specs.Fold.{byteChip, byteFacts, refusalOf, Outcome, Puts, Folds}
+use Rattle.folding.specs.Fold.{byteChip, byteFacts, refusalOf, Outcome, Folds}
 use Rattle.folding.specs.Lists.{Finished}
-use Rattle.folding.proofs.Calls.{stored-apart, number-is}
+use Rattle.folding.proofs.Calls.{number-is, puts-number}
 use Rattle.folding.proofs.Kept.{kept, folded-shape}
 use Rattle.folding.proofs.Theorem.{finished-copied}
 use Rattle.restart.specs.Reference.{Frame}
@@ -77,16 +78,11 @@ test-number {p} legal words old new e =
     (λ c. let z : _≡_ {A = ℕ} 0 12 = rw (a, b, c) at e in omega arith)
     (λ c. let z : _≡_ {A = ℕ} 11 12 = rw (a, b, c) at e in omega arith))
 
-puts-number : {save new : List ℕ} {k budget : ℕ} {r : Outcome} → Puts save new k budget r → ¬ (r .answer ≡ Refused 12)
-puts-number (Puts.differs b e) h = omega (arith, number-is e h)
-puts-number (Puts.long b l e) h = omega (arith, number-is e h)
-puts-number (Puts.stores b l e) h = stored-apart h (ap (λ (o : Outcome). o .answer) e)
-
 module _ {p : List ℕ} (plan : Plan p) {f : Frame} {chip : List ℕ} (u : TakenUp 1 p f chip) where
   never-12 : (words new : List ℕ) (k budget : ℕ) (r : Outcome) → Folds (envOf p words) chip new k budget r → ¬ (r .answer ≡ Refused 12)
   never-12 words new k budget r (Folds.refuses n z l x) h = test-number (plan .legal) words (length chip) (length new) (z ∙ number-is x h)
   never-12 words new k budget r (Folds.damaged z d x) h = not-damaged (u .shape) d
-  never-12 words new k budget r (Folds.reads z end torn last values t q) h = puts-number q h
+  never-12 words new k budget r (Folds.reads z end torn last values t q) h = ⊎-elim (λ e. omega arith) (λ e. omega arith) (puts-number q h)
 
   pub taken-foldable : Foldable p chip
   taken-foldable =

@@ -7,16 +7,13 @@ use mathlib.Core.List.{List, [], _∷_}
 use native.Mathlib.Omega.{arith}
 use lib.ListN.{length, getD}
 use lib.Dec.{eqb}
-use borrow.Author.Tests.{eq-eqb, ne-eqb}
-use Rattle.journal.specs.declared.Commit.{Commit}
-use Rattle.journal.specs.Answer.{Taken}
-use Rattle.step.specs.State.{Env, envOf, Machine}
-use Rattle.step.specs.Ready.{Legal}
+use borrow.Author.Tests.{eq-eqb}
+use Rattle.step.specs.State.{envOf}
 use Rattle.recovery.specs.Recover as recovery
 use Rattle.recovery.specs.declared.Recovered.{Recovered}
 use Rattle.folding.specs.declared.Folded.{Folded}
 use Rattle.folding.specs.declared.Folded.the-variants.{Stored, Refused}
-use Rattle.folding.specs.Fold.{byteFacts, foldedBytes, Outcome, outcome, Begun, Folds, answerOf, numbersOf}
+use Rattle.folding.specs.Fold.{outcome, Begun, Folds, answerOf, numbersOf}
 use Rattle.folding.specs.Lists as lists
 use Rattle.folding.proofs.Calls.{refused-not-zero}
 use Rattle.folding.proofs.Theorem as folding
@@ -129,6 +126,7 @@ q-6 p legal old end torn last values t n new h =
       most = c .most;
       beginning = c .beginning;
       goes-on = goes-on c;
+      found = c .found;
       finishes = λ l s o f. c .finishes (setsIn (l .sets)) (l .stored) (l .budget) (getD (o .numbers) 0 0) (o .new) (finishing s f);
       recovers = recovers c;
     }

@@ -5,6 +5,7 @@ use mathlib.Core.Path.{_≡_}
 use mathlib.Core.List.{List, _++_}
 use lib.ListN.{length, getD, take, drop, replicate}
 use Rattle.journal.specs.declared.Commit.{Commit}
+use Rattle.journal.specs.Parts.{Content}
 use Rattle.journal.specs.Answer.{Taken}
 use Rattle.step.specs.Ready.{Legal}
 use Rattle.folding.specs.Fold.{byteFacts, foldedBytes, Begun, numbersOf}
@@ -51,6 +52,8 @@ pub record FoldClaim (p old save : List ℕ) (n : ℕ) (new : List ℕ) : Type 0
   pub goes-on : (l : FoldLent) → Lends p old new l → n ≤ 65536 → length old ≤ 65536 → 4096 ≤ length (l .sets) → length save ≤ n → Begun save (l .stored) new
       → (o : FoldLeft) → FoldCall l o
       → (o .result ≡ 0) × (o .numbers ≡ numbersOf save (l .stored) (l .budget)) × Begun save (min (l .stored + l .budget) (length save)) (o .new)
+  -- after a cut, with the number lost: the length of the new chip without the `FF` bytes at its end is one that is right
+  pub found : (k : ℕ) → Content new k → Begun save k new
   -- finished, the new chip has the whole save
   pub finishes : (l : FoldLent) → Lends p old new l → (o : FoldLeft) → Finishes l o
       → (getD (o .numbers) 0 0 ≡ length save) × (o .new ≡ save ++ replicate (n - length save) 0xFF)

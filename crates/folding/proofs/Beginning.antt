@@ -1,14 +1,17 @@
--- Bytes of a save and then FF: what decides them (`begun-by`), and what the steps of folding leave (`advance`). A call that is cut ends on the way of its steps (`steps-join`).
+-- Bytes of a save and then FF: what decides them (`begun-by`), the number that is found on them (`begun-found`), and what the steps of folding leave (`advance`). A call that is cut ends on the way of its steps (`steps-join`).
 -- Assumes nothing.
 use Prim.Native.Nat.{ℕ, zero, suc, _+_, _-_, _≤_, _<_, min}
 use mathlib.Core.Path.{_≡_, refl, sym, _∙_, ap}
-use mathlib.Core.List.{List, _++_}
+use mathlib.Core.List.{List, [], _∷_, _++_}
+use mathlib.Core.Logic.{⊎-elim}
 use native.Mathlib.Omega.{arith}
-use lib.ListN.{length, getD, set, take, drop, replicate, take-append-drop, length-append, length-replicate, length-set}
-use lib.Seq.{length-take-le, take-suc, take-at, drop-at, set-at, append-snoc}
+use lib.ListN.{length, getD, set, take, drop, replicate, take-append-drop, length-append, length-replicate, length-set, getD-replicate}
+use lib.Seq.{length-take-le, take-suc, take-take, take-at, drop-at, getD-drop, set-at, append-snoc}
 use lib.Dec.{ltb}
 use borrow.Author.Tests.{ltb-true, ltb-false, lt-ltb, le-ltb}
+use Rattle.cellset.proofs.Bits.{le-or-lt}
 use Rattle.program.proofs.Tests.{bool-cases}
+use Rattle.journal.specs.Parts.{Content}
 use Rattle.folding.specs.Fold.{Begun, Progress, progress, foldSteps}
 
 -- ---- a beginning
@@ -31,6 +34,30 @@ module _ {save chip : List ℕ} {k : ℕ} (b : Begun save k chip) where
 pub begun-by : (save chip : List ℕ) (k free : ℕ) → k ≤ length save → take k chip ≡ take k save → drop k chip ≡ replicate free 0xFF → Begun save k chip
 begun-by save chip k free h f r =
     record { most = h; free = free; bytes = sym (take-append-drop k chip) ∙ ap (λ (l : List ℕ). l ++ drop k chip) f ∙ ap (λ (l : List ℕ). take k save ++ l) r }
+
+-- no byte FF stands at the end of such bytes without their FF, so they are no more than those stored
+found-most : {save chip : List ℕ} {s : ℕ} → Begun save s chip → (k : ℕ) → Content chip k → k ≤ s
+found-most {save} {chip} {s} b k c =
+    ⊎-elim
+    (λ (l : k ≤ s). l)
+    (λ (l : s < k).
+    let j = k - 1 in
+    let z : k ≡ suc j = omega arith in
+    let i : s + (j - s) ≡ j = omega arith in
+    let ff : getD chip j 0 ≡ 0xFF =
+    sym (getD-drop s chip (j - s) 0 ∙ ap (λ (x : ℕ). getD chip x 0) i)
+    ∙ ap (λ (x : List ℕ). getD x (j - s) 0) (begun-rest b)
+    ∙ getD-replicate (b .free) (j - s) 0xFF 0 (omega (arith, length-begun b, c .most)) in
+    absurd (c .trimmed (take j chip)
+    (ap (λ (x : ℕ). take x chip) z ∙ take-suc chip j 0 (omega (arith, c .most)) ∙ ap (λ (x : ℕ). take j chip ++ (x ∷ [])) ff)))
+    (le-or-lt k s)
+
+-- THE NUMBER FOUND ON THE CHIP IS RIGHT
+pub begun-found : {save chip : List ℕ} {s : ℕ} → Begun save s chip → (k : ℕ) → Content chip k → Begun save k chip
+begun-found {save} {chip} {s} b k c =
+    let l = found-most b k c in
+    begun-by save chip k (c .erased) (omega (arith, b .most)) (sym (take-take k s chip l) ∙ ap (take k) (begun-front b) ∙ take-take k s save l)
+    (ap (drop k) (c .bytes) ∙ drop-at (take k chip) (replicate (c .erased) 0xFF) k (length-take-le k chip (c .most)))
 
 -- ---- steps
 

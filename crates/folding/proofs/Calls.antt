@@ -1,22 +1,21 @@
 -- The laws of a call: it has one outcome (`one-fold`), a refusal leaves the new chip (`refusal-alters-nothing`), and on a chip that reads so it is refused or stores bytes of the one
 -- save (`call-cases`).
 -- Assumes nothing.
-use Prim.Native.Nat.{ℕ, _≤_, _<_}
-use mathlib.Core.Path.{_≡_, refl, sym, _∙_, ap, subst}
+use Prim.Native.Nat.{ℕ}
+use mathlib.Core.Path.{_≡_, sym, _∙_, ap, subst}
 use mathlib.Core.Bool.{Bool}
 use mathlib.Core.List.{List}
-use mathlib.Core.Logic.{_⊎_, inl, inr}
+use mathlib.Core.Logic.{_⊎_, inl, inr, ⊎-elim}
 use native.Mathlib.Omega.{arith}
 use lib.ListN.{length}
 use Rattle.journal.specs.declared.Commit.{Commit}
-use Rattle.journal.specs.Format.{Checkpoint}
-use Rattle.journal.specs.Reading.{Facts, first, lastOf, savedValue}
+use Rattle.journal.specs.Reading.{Facts}
 use Rattle.journal.specs.Answer.{Taken}
 use Rattle.journal.proofs.Fixed.{apart, taken-fixed}
 use Rattle.step.specs.State.{Env}
 use Rattle.folding.specs.declared.Folded.{Folded}
 use Rattle.folding.specs.declared.Folded.the-variants.{Stored, Refused}
-use Rattle.folding.specs.Fold.{byteFacts, foldedBytes, refusalOf, Outcome, outcome, Progress, progress, foldSteps, Begun, answered, Puts, Folds, answerOf}
+use Rattle.folding.specs.Fold.{byteFacts, foldedBytes, refusalOf, Outcome, outcome, Progress, progress, foldSteps, answered, Puts, Folds, answerOf}
 use Rattle.folding.proofs.Beginning.{Advanced, advance}
 
 -- no answer is both accepted and refused
@@ -75,19 +74,19 @@ refusal-alters-nothing (Folds.refuses n z l x) h = refused-chip x
 refusal-alters-nothing (Folds.damaged z d x) h = refused-chip x
 refusal-alters-nothing (Folds.reads z end torn last values t q) h = puts-refused q h
 
--- and has a number
+-- and has a number, of the tests of the new chip 13 or 14
 pub number-is : {new : List ℕ} {r : Outcome} {m n : ℕ} → r ≡ outcome (Refused m) new → r .answer ≡ Refused n → m ≡ n
 number-is e h = sym (ap (λ (o : Outcome). answerOf (o .answer) .number) e) ∙ ap (λ (a : Folded). answerOf a .number) h
 
-puts-number : {save new : List ℕ} {k budget n : ℕ} {r : Outcome} → Puts save new k budget r → r .answer ≡ Refused n → ¬ (n ≡ 0)
-puts-number (Puts.differs b e) h z = omega (arith, number-is e h)
-puts-number (Puts.long b l e) h z = omega (arith, number-is e h)
-puts-number (Puts.stores b l e) h z = stored-apart h (ap (λ (o : Outcome). o .answer) e)
+pub puts-number : {save new : List ℕ} {k budget n : ℕ} {r : Outcome} → Puts save new k budget r → r .answer ≡ Refused n → (n ≡ 13) ⊎ (n ≡ 14)
+puts-number (Puts.differs b e) h = inl (sym (number-is e h))
+puts-number (Puts.long b l e) h = inr (sym (number-is e h))
+puts-number (Puts.stores b l e) h = absurd (stored-apart h (ap (λ (o : Outcome). o .answer) e))
 
 pub refused-not-zero : {e : Env} {old new : List ℕ} {k budget n : ℕ} {r : Outcome} → Folds e old new k budget r → r .answer ≡ Refused n → ¬ (n ≡ 0)
 refused-not-zero (Folds.refuses m i l x) h z = omega (arith, number-is x h)
 refused-not-zero (Folds.damaged i d x) h z = omega (arith, number-is x h)
-refused-not-zero (Folds.reads i end torn last values t q) h z = puts-number q h z
+refused-not-zero (Folds.reads i end torn last values t q) h z = ⊎-elim (λ e. omega arith) (λ e. omega arith) (puts-number q h)
 
 -- ---- refused, or bytes are stored
 

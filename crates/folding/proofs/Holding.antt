@@ -1,6 +1,6 @@
 -- The cells whose value is not 0, as a set: what the loop over them keeps (`below-turn`), and that the bytes made of it are those of the folded save (`save-some`).
 -- Assumes nothing.
-use Prim.Native.Nat.{ℕ, zero, suc, _+_, _*_, _≤_, _<_, max}
+use Prim.Native.Nat.{ℕ, zero, suc, _+_, _≤_, _<_, max}
 use mathlib.Core.Path.{_≡_, refl, sym, _∙_, ap}
 use mathlib.Core.Bool.{cond}
 use mathlib.Core.List.{List, _++_}
@@ -15,7 +15,7 @@ use Rattle.cellset.specs.Members.{membersFrom, members}
 use Rattle.cellset.proofs.Sets.{set-ext, set-union}
 use Rattle.program.proofs.Tests.{bool-cases}
 use Rattle.journal.specs.declared.Commit.{Commit}
-use Rattle.journal.specs.Format.{Checkpoint, image, padded}
+use Rattle.journal.specs.Format.{image, padded}
 use Rattle.journal.specs.Writing.{recordsOf, checkpointOf}
 use Rattle.journal.proofs.Paging.{fill-one}
 use Rattle.journal.proofs.Written.{image-length, padded-length}

@@ -2,7 +2,6 @@
 -- Assumes nothing.
 use Prim.Native.Nat.{ℕ, zero, suc, _+_, _^_, _≤_, _<_}
 use mathlib.Core.Path.{_≡_, refl, sym, _∙_, ap}
-use mathlib.Core.Bool.{Bool, true, false, cond}
 use mathlib.Core.List.{List, [], _∷_, _++_, append-nil}
 use mathlib.Core.Logic.{inl, ⊎-elim}
 use native.Mathlib.Omega.{arith}
@@ -15,7 +14,7 @@ use Rattle.cellset.proofs.Members.{In, rising-from}
 use Rattle.instruction.specs.Bytes.{cellsOf}
 use Rattle.program.proofs.Tests.{bool-cases}
 use Rattle.journal.specs.declared.Commit.{Commit}
-use Rattle.journal.specs.Format.{Checkpoint, image, padded, images}
+use Rattle.journal.specs.Format.{Checkpoint, padded, images}
 use Rattle.journal.specs.Reading.{Facts, first, Once, After, Rising, lastOf, savedIn, savedValue}
 use Rattle.journal.specs.Writing.{recordsOf}
 use Rattle.journal.specs.Answer.{Taken}

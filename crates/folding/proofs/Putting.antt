@@ -22,7 +22,7 @@ use Rattle.step.specs.State.{envOf}
 use Rattle.step.specs.Ready.{Legal}
 use Rattle.recovery.proofs.Recovering.{not-zero, Answered}
 use Rattle.folding.specs.declared.Folded.the-variants.{Stored, Refused}
-use Rattle.folding.specs.Fold.{byteFacts, foldedBytes, refusalOf, Outcome, outcome, Progress, progress, foldSteps, Begun, answered, Puts, Folds}
+use Rattle.folding.specs.Fold.{byteFacts, foldedBytes, refusalOf, Outcome, outcome, progress, foldSteps, Begun, answered, Puts, Folds}
 
 -- ---- on the new chip, where the save is the first `size` bytes of a buffer
 

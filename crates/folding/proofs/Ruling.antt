@@ -1,8 +1,8 @@
 -- The answer of a call is the one that the grounds allow, in rising order.
 -- Assumes nothing.
-use Prim.Native.Nat.{ℕ, _≤_, _<_}
-use mathlib.Core.Path.{_≡_, refl, sym, ap, subst}
-use mathlib.Core.Bool.{Bool, true, false, cond, _&&_}
+use Prim.Native.Nat.{ℕ, suc, _≤_, _<_}
+use mathlib.Core.Path.{_≡_, sym, subst}
+use mathlib.Core.Bool.{true, cond, _&&_}
 use mathlib.Core.List.{List, [], _∷_}
 use native.Mathlib.Omega.{arith}
 use lib.ListN.{length}
@@ -18,7 +18,7 @@ use Rattle.journal.specs.Reading.{Damaged}
 use Rattle.journal.specs.Answer.{Taken}
 use Rattle.journal.proofs.Fixed.{apart}
 use Rattle.step.specs.State.{Env}
-use Rattle.folding.specs.Fold.{byteFacts, foldedBytes, refusalOf, Outcome, progress, foldSteps, Begun, Puts, Folds, answerOf, LateGround, size, damage, other, short, Ground, numbersOf, Spent, spent, FoldIs}
+use Rattle.folding.specs.Fold.{byteFacts, foldedBytes, refusalOf, Outcome, progress, foldSteps, Begun, Puts, Folds, answerOf, LateGround, size, damage, other, short, Ground, Spent, spent, FoldIs}
 use Rattle.folding.proofs.Beginning.{advance}
 use Rattle.folding.proofs.Calls.{same-save}
 
@@ -29,40 +29,17 @@ late-after n (damage d) = omega arith
 late-after n (other t d) = omega arith
 late-after n (short t l) = omega arith
 
--- ---- they are tried one after the other
+-- of the save on each reading of the old chip
+abbrev Each : (p old : List ℕ) → (List ℕ → Type 0) → Type 0
+Each p old P = (end torn : ℕ) (last : Commit) (values : List ℕ) → Taken (byteFacts p) old end torn last values → P (foldedBytes end values last)
 
-below-11 : {p old new : List ℕ} {k : ℕ} (m : ℕ) → m < 11 → ¬ LateGround p old new k m
-below-11 m l (size h) = omega arith
-below-11 m l (damage d) = omega arith
-below-11 m l (other t d) = omega arith
-below-11 m l (short t h) = omega arith
-
-module _ {p old new : List ℕ} {k : ℕ} (fits : (chipLength 1 (length old) && chipLength 1 (length new)) ≡ true) where
-  below-12 : (m : ℕ) → m < 12 → ¬ LateGround p old new k m
-  below-12 m l (size h) = clash _ fits h
-  below-12 m l (damage d) = omega arith
-  below-12 m l (other t d) = omega arith
-  below-12 m l (short t h) = omega arith
-
-  module _ {end torn : ℕ} {last : Commit} {values : List ℕ} (t : Taken (byteFacts p) old end torn last values) where
-    below-13 : (m : ℕ) → m < 13 → ¬ LateGround p old new k m
-    below-13 m l (size h) = clash _ fits h
-    below-13 m l (damage d) = apart d t
-    below-13 m l (other t′ d) = omega arith
-    below-13 m l (short t′ h) = omega arith
-
-    module _ (b : Begun (foldedBytes end values last) k new) where
-      below-14 : (m : ℕ) → m < 14 → ¬ LateGround p old new k m
-      below-14 m l (size h) = clash _ fits h
-      below-14 m l (damage d) = apart d t
-      below-14 m l (other t′ d) = d (subst (λ (s : List ℕ). Begun s k new) (same-save t′ t) b)
-      below-14 m l (short t′ h) = omega arith
-
-      unground : length (foldedBytes end values last) ≤ length new → (m : ℕ) → ¬ LateGround p old new k m
-      unground l m (size h) = clash _ fits h
-      unground l m (damage d) = apart d t
-      unground l m (other t′ d) = d (subst (λ (s : List ℕ). Begun s k new) (same-save t′ t) b)
-      unground l m (short t′ h) = omega (arith, ap length (same-save t t′))
+-- the tests whose numbers are below n failed, so no ground is below n
+refute : (p old new : List ℕ) (k n : ℕ) → (11 < n → (chipLength 1 (length old) && chipLength 1 (length new)) ≡ true) → (12 < n → ¬ Damaged (byteFacts p) old)
+    → (13 < n → Each p old (λ save. Begun save k new)) → (14 < n → Each p old (λ save. length save ≤ length new)) → (m : ℕ) → m < n → ¬ LateGround p old new k m
+refute p old new k n a b c d m l (size h) = clash _ (a l) h
+refute p old new k n a b c d m l (damage h) = b l h
+refute p old new k n a b c d m l (other t h) = h (c l _ _ _ _ t)
+refute p old new k n a b c d m l (short t h) = omega (arith, d l _ _ _ _ t)
 
 -- ---- the answer
 
@@ -80,7 +57,7 @@ module _ (e : Env) (old new : List ℕ) (k budget : ℕ) where
       (λ b. bool-cases (chipLength 1 (length old) && chipLength 1 (length new))
       (λ c. let z : 0 ≡ n = rw (a, b, c) at h in absurd (omega arith))
       (λ c. subst refused (rw (a, b, c) at h)
-      (by-own late-after (plan-passes _ (eqb-true _ _ a)) (λ s. omega (arith, ltb-false (length (e .sets)) 512 b)) (denied (size c) below-11)))))
+      (by-own late-after (plan-passes _ (eqb-true _ _ a)) (λ s. omega (arith, ltb-false (length (e .sets)) 512 b)) (denied (size c) (refute (e .program) old new k 11 (λ l. absurd (omega arith)) (λ l. absurd (omega arith)) (λ l. absurd (omega arith)) (λ l. absurd (omega arith))))))))
       (λ a. subst refused (rw a at h) (by-check late-after (plan-refuses _ (eqb-false _ _ a))))
     where
       refused : ℕ → Type 0
@@ -99,23 +76,38 @@ module _ (e : Env) (old new : List ℕ) (k budget : ℕ) where
       (λ c. let z : _≡_ {A = ℕ} 11 0 = rw (a, b, c) at h in absurd (omega arith))))
       (λ a. absurd (eqb-false _ _ a (rw a at h)))
 
-  -- 13, 14, or the numbers
-  put-ruled : {end torn : ℕ} {last : Commit} {values : List ℕ} (r : Outcome) → refusalOf e (length old) (length new) ≡ 0
-      → Taken (byteFacts (e .program)) old end torn last values → Puts (foldedBytes end values last) new k budget r → Ruled (answerOf (r .answer))
-  put-ruled r z t (Puts.differs d x) = subst (λ (o : Outcome). Ruled (answerOf (o .answer))) (sym x) (by-late z (λ fits. denied (other t d) (below-13 fits t)))
-  put-ruled r z t (Puts.long b l x) = subst (λ (o : Outcome). Ruled (answerOf (o .answer))) (sym x) (by-late z (λ fits. denied (short t l) (below-14 fits t b)))
-  put-ruled {end} {torn} {last} {values} r z t (Puts.stores b l x) =
-      let save = foldedBytes end values last in
-      let s = foldSteps save budget (progress new k) in
-      let a = advance save budget k new b l .stored-is in
-      let v : Spent (e .program) old k budget (s .stored ∷ cond (eqb (s .stored) (length save)) 1 0 ∷ []) =
-      subst (λ (i : ℕ). Spent (e .program) old k budget (i ∷ cond (eqb i (length save)) 1 0 ∷ [])) (sym a) (spent t) in
-      subst (λ (o : Outcome). Ruled (answerOf (o .answer))) (sym x) (by-late z (λ fits. granted (unground fits t b l) v))
+  module _ {end torn : ℕ} {last : Commit} {values : List ℕ} (t : Taken (byteFacts (e .program)) old end torn last values) where
+    -- what holds of its save holds on each reading, since there is one
+    each : (P : List ℕ → Type 0) → P (foldedBytes end values last) → Each (e .program) old P
+    each P h _ _ _ _ t′ = subst P (same-save t′ t) h
+
+    whole : ¬ Damaged (byteFacts (e .program)) old
+    whole d = apart d t
+
+    -- 13, 14, or the numbers
+    put-ruled : (r : Outcome) → refusalOf e (length old) (length new) ≡ 0 → Puts (foldedBytes end values last) new k budget r → Ruled (answerOf (r .answer))
+    put-ruled r z (Puts.differs d x) =
+        subst (λ (o : Outcome). Ruled (answerOf (o .answer))) (sym x)
+        (by-late z (λ fits. denied (other t d) (refute (e .program) old new k 13 (λ _. fits) (λ _. whole) (λ l. absurd (omega arith)) (λ l. absurd (omega arith)))))
+    put-ruled r z (Puts.long b l x) =
+        subst (λ (o : Outcome). Ruled (answerOf (o .answer))) (sym x)
+        (by-late z (λ fits. denied (short t l) (refute (e .program) old new k 14 (λ _. fits) (λ _. whole) (λ _. each (λ save. Begun save k new) b) (λ l. absurd (omega arith)))))
+    put-ruled r z (Puts.stores b l x) =
+        let save = foldedBytes end values last in
+        let s = foldSteps save budget (progress new k) in
+        let a = advance save budget k new b l .stored-is in
+        let v : Spent (e .program) old k budget (s .stored ∷ cond (eqb (s .stored) (length save)) 1 0 ∷ []) =
+        subst (λ (i : ℕ). Spent (e .program) old k budget (i ∷ cond (eqb i (length save)) 1 0 ∷ [])) (sym a) (spent t) in
+        subst (λ (o : Outcome). Ruled (answerOf (o .answer))) (sym x)
+        (by-late z (λ fits.
+        granted (λ m. refute (e .program) old new k (suc m) (λ _. fits) (λ _. whole) (λ _. each (λ save. Begun save k new) b) (λ _. each (λ save. length save ≤ length new) l) m (omega arith)) v))
 
   ruled : (r : Outcome) → Folds e old new k budget r → Ruled (answerOf (r .answer))
   ruled r (Folds.refuses n z l x) = subst (λ (o : Outcome). Ruled (answerOf (o .answer))) (sym x) (refusal-ruled n z l)
-  ruled r (Folds.damaged z d x) = subst (λ (o : Outcome). Ruled (answerOf (o .answer))) (sym x) (by-late z (λ fits. denied (damage d) (below-12 fits)))
-  ruled r (Folds.reads z end torn last values t q) = put-ruled r z t q
+  ruled r (Folds.damaged z d x) =
+      subst (λ (o : Outcome). Ruled (answerOf (o .answer))) (sym x)
+      (by-late z (λ fits. denied (damage d) (refute (e .program) old new k 12 (λ _. fits) (λ l. absurd (omega arith)) (λ l. absurd (omega arith)) (λ l. absurd (omega arith)))))
+  ruled r (Folds.reads z end torn last values t q) = put-ruled t r z q
 
   -- so this is what a call promises
   pub fold-is : (r : Outcome) → Folds e old new k budget r → FoldIs e old new k budget r

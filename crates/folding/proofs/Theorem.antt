@@ -24,8 +24,8 @@ use Rattle.recovery.specs.Recover.{Recovers}
 use Rattle.recovery.specs.declared.Recovered.the-variants.{Restored}
 use Rattle.folding.specs.declared.Folded.the-variants.{Stored}
 use Rattle.folding.specs.Fold.{byteFacts, foldedBytes, refusalOf, Outcome, outcome, progress, foldSteps, Begun, Puts, Folds}
-use Rattle.folding.specs.Lists.{Folding, SameState, Stores, Finished, FoldClaim, Q6}
-use Rattle.folding.proofs.Beginning.{length-begun, advance}
+use Rattle.folding.specs.Lists.{Folding, SameState, Stores, Finished, Q6}
+use Rattle.folding.proofs.Beginning.{length-begun, begun-found, advance}
 use Rattle.folding.proofs.Calls.{stored-apart, puts-same, refusal-alters-nothing, Unchanged, Went, call-cases}
 use Rattle.folding.proofs.Kept.{folded-read}
 use Rattle.folding.proofs.Same.{same-state}
@@ -191,6 +191,7 @@ q-6 p legal old end torn last values t n new h =
       beginning = b .bytes ∙ ap (λ (i : ℕ). take (s .stored) (foldedBytes end values last) ++ replicate i 0xFF) z;
       goes-on = λ words k budget r ln lo lw fits g f.
           goes-on p legal old end torn last values t words new k budget r (omega (arith, s .size)) lo lw (omega (arith, s .size)) g f;
+      found = begun-found b;
       finishes = λ words k budget j after f. finishes p legal old end torn last values t words n (s .size) k budget j after f;
       recovers = λ lent words k budget j after. recovers p legal old end torn last values t lent words new k budget j after;
     }

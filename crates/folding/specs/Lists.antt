@@ -1,12 +1,13 @@
 -- Lists of calls of folding and cuts, and what holds of them: document 02, Q-6.
 -- Assumes nothing.
-use Prim.Native.Nat.{ℕ, _+_, _-_, _≤_, _<_, min}
+use Prim.Native.Nat.{ℕ, _+_, _-_, _≤_, min}
 use mathlib.Core.Path.{_≡_}
 use mathlib.Core.Bool.{true}
 use mathlib.Core.List.{List, _++_}
 use lib.ListN.{length, take, replicate}
 use lib.Dec.{eqb}
 use Rattle.journal.specs.declared.Commit.{Commit}
+use Rattle.journal.specs.Parts.{Content}
 use Rattle.journal.specs.Answer.{Taken}
 use Rattle.step.specs.State.{Env, envOf, Machine}
 use Rattle.step.specs.Ready.{Legal}
@@ -69,6 +70,8 @@ pub record FoldClaim (p old save : List ℕ) (n : ℕ) (new : List ℕ) : Type 0
   -- "each call gets the number of bytes already stored": with any number that is right, on a chip long enough, it goes on. Where the save has `FF` bytes several are
   pub goes-on : (words : List ℕ) (stored budget : ℕ) (r : Outcome) → n ≤ 65536 → length old ≤ 65536 → 512 ≤ length words → length save ≤ n → Begun save stored new
       → Folds (envOf p words) old new stored budget r → Stores save stored budget r
+  -- after a cut, with the number lost: the length of the new chip without the `FF` bytes at its end is one that is right
+  pub found : (k : ℕ) → Content new k → Begun save k new
   -- finished, the new chip has the whole save
   pub finishes : (words : List ℕ) (stored budget count : ℕ) (after : List ℕ) → Folds (envOf p words) old new stored budget (outcome (Stored count true) after)
       → (count ≡ length save) × (after ≡ save ++ replicate (n - length save) 0xFF)
