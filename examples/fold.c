@@ -12,6 +12,12 @@
  * Once it has finished, a host goes on with the new chip as it would with the old one, and finds
  * room for more saves on it. Until then the old chip is the one to keep.
  *
+ * It also brings an old chip to today's marks. A chip whose marks name no plan (they begin with A2)
+ * is refused by a recovery with 15; this tool reads it as any other, and the mark that it writes
+ * names PLAN. So PLAN has to be the one that wrote the chip: nothing on such a chip tells. A chip
+ * whose marks name another plan is refused with 16, and so is one folded with the wrong plan when it
+ * is recovered with the right one.
+ *
  * Standard error gets a line that says how it ended. The exit status is 0 where the new chip is
  * finished, else 1.
  *
@@ -38,6 +44,9 @@
 #ifndef BUDGET
 #define BUDGET 1
 #endif
+
+/* What a fold answers of a chip whose marks name another plan. */
+#define OTHER_PLAN 16
 
 /*
  * What the tool lends to the engine, and its file. A file longer than a plan or a chip may be is
@@ -131,11 +140,13 @@ static void write_chip(const struct fold *fold, uint64_t address)
 static uint64_t fold_on(struct fold *fold, uint64_t stored, uint32_t *finished)
 {
     uint64_t now_stored;
+    uint32_t result = pitskelo_fold(fold->plan, fold->plan_len, fold->sets, sizeof fold->sets,
+                                    fold->old_chip, fold->old_len, fold->new_chip, fold->new_len,
+                                    stored, BUDGET, &now_stored, finished);
 
-    must_accept("fold",
-                pitskelo_fold(fold->plan, fold->plan_len, fold->sets, sizeof fold->sets,
-                              fold->old_chip, fold->old_len, fold->new_chip, fold->new_len,
-                              stored, BUDGET, &now_stored, finished));
+    if (result == OTHER_PLAN)
+        fprintf(stderr, "fold: the chip belongs to another plan\n");
+    must_accept("fold", result);
     for (; stored < now_stored; stored++)
         write_chip(fold, stored);
     return now_stored;
@@ -149,7 +160,8 @@ int main(int argc, char **argv)
     uint32_t finished;
 
     if (argc != 4 && argc != 5) {
-        fprintf(stderr, "use: fold PLAN OLD NEW [PAUSE]\n");
+        fprintf(stderr, "use: fold PLAN OLD NEW [PAUSE]\n"
+                        "folds OLD, whose marks are today's or old ones of PLAN, onto NEW\n");
         return EXIT_FAILURE;
     }
     fold.pause = argc == 5 ? atol(argv[4]) : 0;

@@ -16,6 +16,11 @@
  * numbers that it has. Standard error gets a line that says how the run ended. The exit status is 0
  * where the plan has stopped or no reading is left, else 1.
  *
+ * A chip that is not this plan's to go on with is left as it is, and standard error says why. Where
+ * its marks are old ones, which name no plan (15), a byte chip has to be folded onto a blank one
+ * first (fold.c), and the host goes on with that. Where they name another plan (16), it is the wrong
+ * chip or the wrong plan.
+ *
  * Nothing is lost in a cut since the engine works on a copy of the chip, and after each call
  * - the outputs are handed on before a byte is written to the chip,
  * - the bytes, or pages, are written in the order of the steps that changed them. A page is one
@@ -48,6 +53,10 @@
 #endif
 
 #define NUMBER_SIZE 4
+
+/* What a recovery answers of a chip whose marks are old, and of one whose marks name another plan. */
+#define OLD_MARKS 15
+#define OTHER_PLAN 16
 
 /* A kind of chip: the bytes that it stores or erases as a unit, and its calls. */
 struct kind {
@@ -161,12 +170,26 @@ static void analyse(struct host *host)
                                  host->sets, sizeof host->sets));
 }
 
+/* Tells what is to be done with a chip that is not this plan's to go on with. */
+static void tell_owner(const struct host *host, uint32_t result)
+{
+    if (result == OTHER_PLAN)
+        fprintf(stderr, "host: the chip belongs to another plan\n");
+    if (result == OLD_MARKS && host->kind == &byte_chip)
+        fprintf(stderr, "host: the chip has old marks: fold it onto a blank one\n");
+    if (result == OLD_MARKS && host->kind == &page_chip)
+        fprintf(stderr, "host: the chip has old marks: no page chip is folded, erase it\n");
+}
+
 /* Sets the state by the whole saves on the chip, whatever a cut has left behind them. */
 static void recover(struct host *host)
 {
-    must_accept("recover",
-                host->kind->recover(host->plan, host->plan_len, host->sets, sizeof host->sets,
-                                    host->chip, host->chip_len, host->state, sizeof host->state));
+    uint32_t result =
+        host->kind->recover(host->plan, host->plan_len, host->sets, sizeof host->sets,
+                            host->chip, host->chip_len, host->state, sizeof host->state);
+
+    tell_owner(host, result);
+    must_accept("recover", result);
 }
 
 /*

@@ -28,9 +28,14 @@
  *      a save; for a page chip also where a page of a whole save is filled with other bytes than FF
  *   13 the new chip of a fold is other than that many bytes of the save and then FF
  *   14 the save of a fold is longer than the new chip
+ *   15 every save of the chip ends in the MARK in use until request Q-8, A2, which names no plan:
+ *      pitskelo_fold makes a chip of it that recovery takes
+ *   16 a whole save of the chip names another plan: its MARK, A3, has another length of plan or
+ *      another sum of its bytes
  *
- * Several may hold at once. 1 is tried first, then 2 to 5 command by command, then 6 to 14 in this
- * order. 12 is given by recoveries and folds, 13 and 14 by folds alone.
+ * Several may hold at once. 1 is tried first, then 2 to 5 command by command, then 6 to 12 in this
+ * order; then 15 and 16 in a recovery, and 16, 13 and 14 in a fold. 12 and 16 are given by
+ * recoveries and folds, 13 and 14 by folds alone, 15 by recoveries alone.
  *
  * docs/C-API.md says what a host does with these calls, and in which order.
  */
@@ -97,7 +102,8 @@ uint32_t pitskelo_analyse(const uint8_t *plan, size_t plan_len,
 /*
  * Reads the chip and fills the state from its whole saves: each cell's last saved value, or 0, and
  * place and counts of the last save, or the plan's beginning. It comes before the first run, on an
- * erased chip (all FF) too, and again after each power cut. Result: 0, or 1 to 12.
+ * erased chip (all FF) too, and again after each power cut. Result: 0, or 1 to 12, 15, 16. A chip
+ * that runs of this plan have written, from an erased one on, is never refused with 12, 15 or 16.
  *
  * sets are those that pitskelo_analyse found for this plan. The state may hold anything before the
  * call, which tests its length alone. The chip stays as it is: the bytes of a torn save are erased
@@ -160,8 +166,9 @@ uint32_t pitskelo_page_run(const uint8_t *plan, size_t plan_len,
 /*
  * Folds an old byte chip onto a new one, which is blank (all FF) at first: the new chip gets one
  * save, with every cell whose recovered value is not 0, by rising number, and the last save's place
- * and counts. A chip without a whole save leaves the new one blank. Result: 0, or 1 to 9, 11 to 14;
- * 11 covers both chips, 12 the old one.
+ * and counts. A chip without a whole save leaves the new one blank. Result: 0, or 1 to 9, 11 to 14,
+ * 16; 11 covers both chips, 12 and 16 the old one. The old chip may have A2 saves, which recovery
+ * refuses with 15; the new one names the plan.
  *
  * stored is the number of bytes of the save that stand on the new chip, at first 0. The call stores
  * the next ones upward, at most budget. now_stored gets the new number, and finished 1 where the

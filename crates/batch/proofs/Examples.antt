@@ -1,4 +1,4 @@
--- Lists that follow one another, computed, so that Q-3 speaks of something. A plan keeps a set point in a table of one cell. A list with the sets until Q-3 saves that cell and
+-- Lists that follow one another, computed, so that Q-3 speaks of something; their marks are those of document 01. A plan keeps a set point in a table of one cell. A list with the sets until Q-3 saves that cell and
 -- is cut inside its second save; the list that goes on with the chip under today's sets takes the first save up, erases the torn bytes, gives the output again and the next
 -- one, and saves without the cell (`old-facts`, `new-facts`, `set-point-claim`).
 -- Assumes nothing.
@@ -6,6 +6,7 @@ use Prim.Native.Nat.{ℕ, zero, suc, _+_, _*_, _/_, _%_, _<_}
 use mathlib.Core.Path.{_≡_, refl, sym, _∙_, ap, subst}
 use mathlib.Core.Bool.{true, false, not, _||_}
 use mathlib.Core.List.{List, [], _∷_, _++_}
+use mathlib.Core.Logic.{inr}
 use native.Mathlib.Omega.{arith}
 use lib.IntN.{ℤ, pos}
 use lib.ListN.{length, take, drop, replicate, length-replicate}
@@ -22,7 +23,7 @@ use Rattle.analysis.specs.Rows as rows
 use Rattle.analysis.proofs.Table.{row-holds}
 use Rattle.analysis.proofs.Certificates.{all-at}
 use Rattle.analysis.proofs.Computed.{analyses-by}
-use Rattle.journal.specs.Format.{Checkpoint, formatOf, image}
+use Rattle.journal.specs.Format.{Checkpoint, unowned, formatFor, image}
 use Rattle.journal.specs.Reading.{factsOf}
 use Rattle.journal.proofs.Torn.{Trimmed, trimmed-snoc}
 use Rattle.step.specs.State.{envOf}
@@ -138,38 +139,39 @@ old-found = record {
 
 -- ---- the old list
 
--- on a byte chip of 60 bytes, the readings 5 and 7, and places enough
-abbrev pub trialWith : (words : List ℕ) (budget : ℕ) → Trial
-trialWith words budget =
-    record { program = setPoint; words = words; chip = 60; page = 1; readings = pos 5 ∷ pos 7 ∷ []; budget = budget; places = replicate 4 (pos 0) }
+-- on a byte chip of 60 bytes whose marks name the owner, the readings 5 and 7, and places enough
+abbrev pub trialWith : (owner : ℕ) (words : List ℕ) (budget : ℕ) → Trial
+trialWith owner words budget =
+    record { program = setPoint; words = words; chip = 60; page = 1; owner = owner; readings = pos 5 ∷ pos 7 ∷ []; budget = budget; places = replicate 4 (pos 0) }
 
 abbrev pub setPointReadings : List ℤ
-setPointReadings = trialWith oldSets 0 .readings
+setPointReadings = trialWith unowned oldSets 0 .readings
 
 -- the checkpoint of both cells, and that of cell 0 alone
-abbrev pub saveBoth : (value point readings outputs : ℕ) → Checkpoint
-saveBoth v w n m =
+abbrev pub saveBoth : (owner value point readings outputs : ℕ) → Checkpoint
+saveBoth owner v w n m =
     record {
       records = record { cell = 0; value = v } ∷ record { cell = 1; value = w } ∷ [];
-      commit = record { place = 5; exclude = 3; readings = n; outputs = m };
+      commit = record { place = 5; exclude = 3; readings = n; outputs = m; owner = owner };
     }
 
-abbrev pub saveOne : (value readings outputs : ℕ) → Checkpoint
-saveOne v n m = record { records = record { cell = 0; value = v } ∷ []; commit = record { place = 5; exclude = 3; readings = n; outputs = m } }
+abbrev pub saveOne : (owner value readings outputs : ℕ) → Checkpoint
+saveOne owner v n m =
+    record { records = record { cell = 0; value = v } ∷ []; commit = record { place = 5; exclude = 3; readings = n; outputs = m; owner = owner } }
 
 -- a run that is cut behind 45 steps, when 10 bytes of its second save are stored; the state is lost
 unfoldable pub oldCut : System
-oldCut = crashed (ran setPoint setPointReadings (begun (trialWith oldSets 45)) (request (trialWith oldSets 45))) (spoiled [])
+oldCut = crashed (ran setPoint setPointReadings (begun (trialWith unowned oldSets 45)) (request (trialWith unowned oldSets 45))) (spoiled [])
 
-pub old-list : History setPoint setPointReadings 1 60 0 (Erased 60) (λ w. w ≡ oldSets) oldCut
+pub old-list : History setPoint setPointReadings 1 unowned 60 0 (Erased 60) (λ w. w ≡ oldSets) oldCut
 unfolding computing oldSets oldCut
-old-list = crashed-run (beginning (trialWith oldSets 45) refl) refl (request (trialWith oldSets 45)) refl tt (spoiled [])
+old-list = crashed-run (beginning (trialWith unowned oldSets 45) refl) refl (request (trialWith unowned oldSets 45)) refl tt (spoiled [])
 
 -- of 8 commands executed 3 are committed, one output is given, and both saves have the set point
 pub old-facts : (oldCut .tally ≡ tallyOf 8 3 8)
     × (oldCut .outputs ≡ output 0 (pos 5) ∷ [])
-    × (take 26 (oldCut .machine .journal) ≡ image (saveBoth 5 0 1 0))
-    × (take 10 (drop 26 (oldCut .machine .journal)) ≡ take 10 (image (saveBoth 7 5 2 1)))
+    × (take 26 (oldCut .machine .journal) ≡ image (formatFor 1 unowned) (saveBoth unowned 5 0 1 0))
+    × (take 10 (drop 26 (oldCut .machine .journal)) ≡ take 10 (image (formatFor 1 unowned) (saveBoth unowned 7 5 2 1)))
     × (drop 36 (oldCut .machine .journal) ≡ replicate 24 0xFF)
 unfolding computing oldSets oldCut
 old-facts = (refl, refl, refl, refl, refl)
@@ -178,20 +180,20 @@ old-facts = (refl, refl, refl, refl, refl)
 
 -- a recovery under today's sets, which finds the first save and 10 torn bytes
 unfoldable pub newBegun : System
-newBegun = recovered (trialWith newSets 1000) (unused (oldCut .tally .committed) (spoiled (oldCut .machine .journal))) (saveBoth 5 0 1 0 ∷ []) 10
+newBegun = recovered (trialWith unowned newSets 1000) (unused (oldCut .tally .committed) (spoiled (oldCut .machine .journal))) (saveBoth unowned 5 0 1 0 ∷ []) 10
 
 -- and a run that takes the reading that is left
 unfoldable pub newDone : System
-newDone = ran setPoint setPointReadings newBegun (request (trialWith newSets 1000))
+newDone = ran setPoint setPointReadings newBegun (request (trialWith unowned newSets 1000))
 
 -- the torn bytes do not end in FF
-pub torn-trimmed : Trimmed (take 10 (image (saveBoth 7 5 2 1)))
+pub torn-trimmed : Trimmed (take 10 (image (formatFor 1 unowned) (saveBoth unowned 7 5 2 1)))
 unfolding computing
-torn-trimmed = trimmed-snoc (take 9 (image (saveBoth 7 5 2 1))) 0 (λ e. omega arith)
+torn-trimmed = trimmed-snoc (take 9 (image (formatFor 1 unowned) (saveBoth unowned 7 5 2 1))) 0 (λ e. omega arith)
 
 -- the lists that go on with the old chip
 abbrev Onward : System → Type 0
-Onward = History setPoint setPointReadings 1 60 (oldCut .tally .committed) (λ l. l ≡ oldCut .machine .journal) (λ w. w ≡ newSets)
+Onward = History setPoint setPointReadings 1 unowned 60 (oldCut .tally .committed) (λ l. l ≡ oldCut .machine .journal) (λ w. w ≡ newSets)
 
 old-size : length (oldCut .machine .journal) ≡ 60
 unfolding computing oldSets oldCut
@@ -201,25 +203,25 @@ new-begun : Onward newBegun
 unfolding computing oldSets newSets oldCut newBegun
 new-begun =
     let chip = oldCut .machine .journal in
-    let shape = shape-by (factsOf (formatOf 1) setPoint) chip (saveBoth 5 0 1 0 ∷ []) (saveBoth 7 5 2 1) 10 refl in
+    let shape = shape-by (factsOf (formatFor 1 unowned) setPoint) chip (saveBoth unowned 5 0 1 0 ∷ []) (saveBoth unowned 7 5 2 1) 10 refl in
     recovers (begins (spoiled chip) old-size refl) newSets refl _
-    (outcome-is (envOf setPoint newSets) 1 (spoiled chip) (saveBoth 5 0 1 0 ∷ []) (take 10 (image (saveBoth 7 5 2 1))) shape refl torn-trimmed
-    (valuesOf (saveBoth 5 0 1 0 ∷ [])) (values-some (saveBoth 5 0 1 0 ∷ [])))
+    (outcome-is (envOf setPoint newSets) 1 unowned (spoiled chip) (saveBoth unowned 5 0 1 0 ∷ []) refl (take 10 (image (formatFor 1 unowned) (saveBoth unowned 7 5 2 1))) shape refl torn-trimmed
+    (valuesOf (saveBoth unowned 5 0 1 0 ∷ [])) (values-some (saveBoth unowned 5 0 1 0 ∷ [])))
     refl
 
 pub new-list : Onward newDone
 unfolding computing oldSets newSets oldCut newBegun newDone
-new-list = runs new-begun refl (request (trialWith newSets 1000)) refl tt
+new-list = runs new-begun refl (request (trialWith unowned newSets 1000)) refl tt
 
 -- the output is given again, with the next one, and the save behind the old one leaves the set point out
 pub new-facts : (newBegun .machine .regs .erase ≡ 10)
     × (newDone .tally ≡ tallyOf 12 9 12)
     × (newDone .outputs ≡ output 0 (pos 5) ∷ output 1 (pos 7) ∷ [])
-    × (take 20 (drop 26 (newDone .machine .journal)) ≡ image (saveOne 7 2 1))
+    × (take 20 (drop 26 (newDone .machine .journal)) ≡ image (formatFor 1 unowned) (saveOne unowned 7 2 1))
     × (drop 46 (newDone .machine .journal) ≡ replicate 14 0xFF)
 unfolding computing oldSets newSets oldCut newBegun newDone
 new-facts = (refl, refl, refl, refl, refl)
 
 -- Q-3 of both lists: together they give 5 and 7, as the uncut run does
-pub set-point-claim : BatchClaim setPoint setPointReadings 1 60 (oldCut .tally .committed) (λ w. w ≡ newSets) (oldCut .outputs) (oldCut .tally .highest) newDone
-set-point-claim = q-3 1 setPoint set-point-plan setPointReadings 60 oldSets newSets old-found new-found oldCut old-list newDone new-list
+pub set-point-claim : BatchClaim setPoint setPointReadings 1 unowned 60 (oldCut .tally .committed) (λ w. w ≡ newSets) (oldCut .outputs) (oldCut .tally .highest) newDone
+set-point-claim = q-3 1 setPoint set-point-plan unowned (inr refl) setPointReadings 60 oldSets newSets old-found new-found oldCut old-list newDone new-list

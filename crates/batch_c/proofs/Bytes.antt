@@ -2,6 +2,7 @@
 -- Assumes nothing.
 use Prim.Native.Nat.{ℕ}
 use mathlib.Core.Path.{_≡_, sym, _∙_, ap}
+use mathlib.Core.Bool.{true, false}
 use mathlib.Core.List.{List, [], _∷_, _++_, append-assoc}
 use native.Mathlib.Omega.{arith}
 use lib.ListN.{length, take, drop, length-append}
@@ -25,12 +26,13 @@ pub record Full (m : Machine) : Type 0 where
   pub cells : length (m .cells) ≡ 256
   pub marks : length (m .marks) ≡ 256
 
-pub restored-full : (p words : List ℕ) (page : ℕ) {m : Machine} {r : Outcome} → Recovers (envOf p words) page m r → r .answer ≡ Restored → Full (r .machine)
+pub restored-full : (p words : List ℕ) (page owner : ℕ) {m : Machine} {r : Outcome} → Recovers (envOf p words) page owner m r → r .answer ≡ Restored → Full (r .machine)
 unfolding recoverOf
-restored-full p words page (refuses n h l k) z = absurd (restored-apart z (ap (λ (o : Outcome). o .answer) k))
-restored-full p words page (reads h BadLength v s k) z = absurd (restored-apart z (ap (λ (o : Outcome). o .answer) k))
-restored-full p words page (reads h Damaged v s k) z = absurd (restored-apart z (ap (λ (o : Outcome). o .answer) k))
-restored-full p words page (reads h (Found end torn last) v s k) z =
+restored-full p words page owner (refuses n h l k) z = absurd (restored-apart z (ap (λ (o : Outcome). o .answer) k))
+restored-full p words page owner (reads h BadLength v s n x k) z = absurd (restored-apart z (ap (λ (o : Outcome). o .answer) k))
+restored-full p words page owner (reads h Damaged v s n x k) z = absurd (restored-apart z (ap (λ (o : Outcome). o .answer) k))
+restored-full p words page owner (reads h (Found end torn last false) v s n x k) z = absurd (restored-apart z (ap (λ (o : Outcome). o .answer) k))
+restored-full p words page owner (reads h (Found end torn last true) v s n x k) z =
     record {
       cells = ap (λ (o : Outcome). length (o .machine .cells)) k ∙ s .1 .cells;
       marks = ap (λ (o : Outcome). length (o .machine .marks)) k ∙ marks-length p words (last .exclude);

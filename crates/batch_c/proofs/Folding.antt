@@ -8,9 +8,11 @@ use native.Mathlib.Omega.{arith}
 use lib.ListN.{length, getD}
 use lib.Dec.{eqb}
 use borrow.Author.Tests.{eq-eqb}
+use Rattle.journal.specs.Format.{ownerOf}
 use Rattle.step.specs.State.{envOf}
 use Rattle.recovery.specs.Recover as recovery
 use Rattle.recovery.specs.declared.Recovered.{Recovered}
+use Rattle.recovery.specs.declared.Recovered.the-variants.{Restored}
 use Rattle.folding.specs.declared.Folded.{Folded}
 use Rattle.folding.specs.declared.Folded.the-variants.{Stored, Refused}
 use Rattle.folding.specs.Fold.{outcome, Begun, Folds, answerOf, numbersOf}
@@ -23,7 +25,7 @@ use Rattle.pitskelo.specs.Calls.{leaves}
 use Rattle.pitskelo.specs.Runs.{setsIn, RecoverCall}
 use Rattle.pitskelo.specs.Folds.{FoldLent, FoldLeft, FoldCall}
 use Rattle.restart_c.proofs.Calling.{accepted-size, accepted-restored}
-use Rattle.batch_c.specs.Fold.{Lends, FoldCalls, Finishes, SameBytes, FoldClaim, Q6, Finished}
+use Rattle.batch_c.specs.Fold.{Lends, FoldCalls, Finishes, SameBytes, Gives, FoldClaim, Q6, Finished}
 use Rattle.batch_c.proofs.Bytes.{restored-full, same-bytes}
 
 -- ---- one call
@@ -90,7 +92,31 @@ words-enough : (ws : List ℕ) → 4096 ≤ length ws → 512 ≤ length (setsIn
 unfolding setsIn
 words-enough ws l = omega (arith, numbers-length 8 (min (length ws / 8) 512) ws 0)
 
-module _ {p old save new : List ℕ} {n : ℕ} (c : lists.FoldClaim p old save n new) where
+-- an accepted call of pitskelo_recover leaves the bytes that recovery for marks in the plan's name gives
+pub call-gives : {p ws chip state left : List ℕ} → RecoverCall 1 p ws chip state left 0 → Gives (ownerOf p) p ws chip left
+call-gives {p} {ws} {chip} {state} x = record {
+  machine = machineIn 1 (ownerOf p) state chip;
+  chip-is = refl;
+  outcome = x .outcome;
+  recovers = x .recovers (accepted-size x);
+  restored = accepted-restored x;
+  left-is = x .left;
+}
+
+-- where recovery of a finished chip is restored to the state that the old one gives, the call says so, in bytes
+pub same-left : {p ws chip left : List ℕ} {owner : ℕ} (x : Gives owner p ws chip left) {new state′ left′ : List ℕ} {result : ℕ} (size : length state′ ≡ stateSize)
+    (y : RecoverCall 1 p ws new state′ left′ result) → (y .outcome .answer ≡ Restored) × lists.SameState (x .outcome .machine) (y .outcome .machine)
+    → (result ≡ 0) × SameBytes left left′
+same-left {p} {ws} {owner = owner} x {left′ = left′} {result = result} size y g =
+    let z : result ≡ 0 = y .number ∙ rw (eq-eqb _ stateSize size) (ap (λ (a : Recovered). recovery.answerOf a .number) (g .0)) in
+    let w = setsIn ws in
+    let b = same-bytes (x .outcome .machine) (y .outcome .machine) (restored-full p w 1 owner (x .recovers) (x .restored)) (restored-full p w 1 (ownerOf p) (y .recovers size) (g .0)) (g .1) in
+    let e : left′ ≡ bytesOfState (y .outcome .machine) = y .left ∙ rw (eq-eqb result 0 z) in (
+      z,
+      subst (λ (u : List ℕ). SameBytes u left′) (sym (x .left-is)) (subst (SameBytes (bytesOfState (x .outcome .machine))) (sym e) b),
+    )
+
+module _ {p old save new : List ℕ} {owner n : ℕ} (c : lists.FoldClaim p old owner save n new) where
   goes-on : (l : FoldLent) → Lends p old new l → n ≤ 65536 → length old ≤ 65536 → 4096 ≤ length (l .sets) → length save ≤ n → Begun save (l .stored) new → (o : FoldLeft)
       → FoldCall l o → (o .result ≡ 0) × (o .numbers ≡ numbersOf save (l .stored) (l .budget)) × Begun save (min (l .stored + l .budget) (length save)) (o .new)
   goes-on l s ln lo lw fits b o x =
@@ -103,23 +129,16 @@ module _ {p old save new : List ℕ} {n : ℕ} (c : lists.FoldClaim p old save n
         subst (λ (i : ℕ). Begun save i (o .new)) (g .after-is) (subst (Begun save (g .after)) (sym (x .chip)) (g .begun)),
       )
 
-  recovers : (l : FoldLent) → Lends p old new l → (o : FoldLeft) → Finishes l o → (ws state left : List ℕ) → RecoverCall 1 p ws old state left 0
+  recovers : (l : FoldLent) → Lends p old new l → (o : FoldLeft) → Finishes l o → (ws left : List ℕ) → Gives owner p ws old left
       → (state′ left′ : List ℕ) (result : ℕ) → length state′ ≡ stateSize → RecoverCall 1 p ws (o .new) state′ left′ result → (result ≡ 0) × SameBytes left left′
-  recovers l s o f ws state left x state′ left′ result size y =
-      let r = x .recovers (accepted-size x) in
-      let q = y .recovers size in
-      let g = c .recovers (setsIn (l .sets)) (setsIn ws) (l .stored) (l .budget) (getD (o .numbers) 0 0) (o .new) (finishing s f) (machineIn 1 state old) (machineIn 1 state′ (o .new)) refl refl
-      (x .outcome) (y .outcome) r q (accepted-restored x) in
-      let z : result ≡ 0 = y .number ∙ rw (eq-eqb (length state′) stateSize size) (ap (λ (a : Recovered). recovery.answerOf a .number) (g .0)) in
-      let b = same-bytes (x .outcome .machine) (y .outcome .machine) (restored-full p (setsIn ws) 1 r (accepted-restored x)) (restored-full p (setsIn ws) 1 q (g .0)) (g .1) in
-      let e : left′ ≡ bytesOfState (y .outcome .machine) = y .left ∙ rw (eq-eqb result 0 z) in (
-        z,
-        subst (λ (u : List ℕ). SameBytes u left′) (sym (x .left)) (subst (SameBytes (bytesOfState (x .outcome .machine))) (sym e) b),
-      )
+  recovers l s o f ws left x state′ left′ result size y =
+      same-left x size y
+      (c .recovers (setsIn (l .sets)) (setsIn ws) (l .stored) (l .budget) (getD (o .numbers) 0 0) (o .new) (finishing s f) (x .machine) (machineIn 1 (ownerOf p) state′ (o .new))
+      (x .chip-is) refl (x .outcome) (y .outcome) (x .recovers) (y .recovers size) (x .restored))
 
 pub q-6 : Q6
-q-6 p legal old end torn last values t n new h =
-    let c = folding.q-6 p legal old end torn last values t n new (list-of h) in
+q-6 p legal old owner end torn last values t n new h =
+    let c = folding.q-6 p legal old owner end torn last values t n new (list-of h) in
     record {
       size = c .size;
       stored = c .stored;

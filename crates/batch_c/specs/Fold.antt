@@ -1,4 +1,4 @@
--- Lists of calls of pitskelo_fold and cuts, over the bytes that they are lent: document 02, Q-6, of the calls of crate `pitskelo`.
+-- Lists of calls of pitskelo_fold and cuts, over the bytes that they are lent: document 02, Q-6 and Q-8, of the calls of crate `pitskelo`.
 -- Assumes nothing.
 use Prim.Native.Nat.{ℕ, _+_, _-_, _≤_, min}
 use mathlib.Core.Path.{_≡_}
@@ -6,11 +6,15 @@ use mathlib.Core.List.{List, _++_}
 use lib.ListN.{length, getD, take, drop, replicate}
 use Rattle.journal.specs.declared.Commit.{Commit}
 use Rattle.journal.specs.Parts.{Content}
-use Rattle.journal.specs.Answer.{Taken}
+use Rattle.journal.specs.Format.{ownerOf}
+use Rattle.step.specs.State.{envOf, Machine}
 use Rattle.step.specs.Ready.{Legal}
-use Rattle.folding.specs.Fold.{byteFacts, foldedBytes, Begun, numbersOf}
-use Rattle.layout.specs.Layout.{stateSize}
-use Rattle.pitskelo.specs.Runs.{RecoverCall}
+use Rattle.recovery.specs.Recover as recovery
+use Rattle.recovery.specs.Recover.{Recovers}
+use Rattle.recovery.specs.declared.Recovered.the-variants.{Restored}
+use Rattle.folding.specs.Fold.{Holds, foldedBytes, Begun, numbersOf}
+use Rattle.layout.specs.Layout.{stateSize, bytesOfState}
+use Rattle.pitskelo.specs.Runs.{setsIn, RecoverCall}
 use Rattle.pitskelo.specs.Folds.{FoldLent, FoldLeft, FoldCall}
 
 -- a call is lent the plan, the old chip, and the new chip as it stands
@@ -41,8 +45,18 @@ pub record SameBytes (a b : List ℕ) : Type 0 where
   pub before : take 1300 a ≡ take 1300 b
   pub behind : drop 1308 a ≡ drop 1308 b
 
--- of an old chip whose save is `save`, and a new chip of n bytes that calls and cuts have brought to `new`
-pub record FoldClaim (p old save : List ℕ) (n : ℕ) (new : List ℕ) : Type 0 where
+-- the bytes of the state that recovery gives of a byte chip whose marks name the owner: those that pitskelo_recover leaves where that is the plan's (`call-gives` of
+-- proofs/Folding.antt), and with `unowned` those that it left until Q-8
+pub record Gives (owner : ℕ) (p ws chip left : List ℕ) : Type 0 where
+  pub machine : Machine
+  pub chip-is : machine .journal ≡ chip
+  pub outcome : recovery.Outcome
+  pub recovers : Recovers (envOf p (setsIn ws)) 1 owner machine outcome
+  pub restored : outcome .answer ≡ Restored
+  pub left-is : left ≡ bytesOfState (outcome .machine)
+
+-- of an old chip whose marks name `owner` and whose save is `save`, and a new chip of n bytes that calls and cuts have brought to `new`
+pub record FoldClaim (p old : List ℕ) (owner : ℕ) (save : List ℕ) (n : ℕ) (new : List ℕ) : Type 0 where
   -- "A cut during folding leaves the new chip with a beginning of that save, or the whole."
   pub size : length new ≡ n
   pub stored : ℕ
@@ -57,15 +71,16 @@ pub record FoldClaim (p old save : List ℕ) (n : ℕ) (new : List ℕ) : Type 0
   -- finished, the new chip has the whole save
   pub finishes : (l : FoldLent) → Lends p old new l → (o : FoldLeft) → Finishes l o
       → (getD (o .numbers) 0 0 ≡ length save) × (o .new ≡ save ++ replicate (n - length save) 0xFF)
-  -- "recovering old or finished new must give the same state except for write position and bytes to erase"
-  pub recovers : (l : FoldLent) → Lends p old new l → (o : FoldLeft) → Finishes l o → (ws state left : List ℕ) → RecoverCall 1 p ws old state left 0
+  -- "recovering old or finished new must give the same state except for write position and bytes to erase"; with `A2` marks "the finished chip recovers to the state that the
+  -- old one gave until now"
+  pub recovers : (l : FoldLent) → Lends p old new l → (o : FoldLeft) → Finishes l o → (ws left : List ℕ) → Gives owner p ws old left
       → (state′ left′ : List ℕ) (result : ℕ) → length state′ ≡ stateSize → RecoverCall 1 p ws (o .new) state′ left′ result → (result ≡ 0) × SameBytes left left′
 
--- for every plan and old chip that is not damaged, and every list of calls and cuts
+-- for every plan, every old chip that is neither damaged nor another plan's, and every list of calls and cuts
 abbrev pub Q6 : Type 0
 Q6 =
-    (p : List ℕ) → Legal p → (old : List ℕ) (end torn : ℕ) (last : Commit) (values : List ℕ) → Taken (byteFacts p) old end torn last values
-    → (n : ℕ) (new : List ℕ) → FoldCalls p old n new → FoldClaim p old (foldedBytes end values last) n new
+    (p : List ℕ) → Legal p → (old : List ℕ) (owner end torn : ℕ) (last : Commit) (values : List ℕ) → Holds p old owner end torn last values
+    → (n : ℕ) (new : List ℕ) → FoldCalls p old n new → FoldClaim p old owner (foldedBytes (ownerOf p) end values last) n new
 
 -- a chip that a list of calls and cuts on a blank one has come to, whose last call answered that it is finished
 pub record Finished (p old new : List ℕ) : Type 0 where

@@ -1,7 +1,7 @@
 -- The cells whose value is not 0, as a set: what the loop over them keeps (`below-turn`), and that the bytes made of it are those of the folded save (`save-some`).
 -- Assumes nothing.
 use Prim.Native.Nat.{ℕ, zero, suc, _+_, _≤_, _<_, max}
-use mathlib.Core.Path.{_≡_, refl, sym, _∙_, ap}
+use mathlib.Core.Path.{_≡_, refl, sym, _∙_, ap, subst}
 use mathlib.Core.Bool.{cond}
 use mathlib.Core.List.{List, _++_}
 use native.Mathlib.Omega.{arith}
@@ -15,11 +15,12 @@ use Rattle.cellset.specs.Members.{membersFrom, members}
 use Rattle.cellset.proofs.Sets.{set-ext, set-union}
 use Rattle.program.proofs.Tests.{bool-cases}
 use Rattle.journal.specs.declared.Commit.{Commit}
-use Rattle.journal.specs.Format.{image, padded}
+use Rattle.journal.specs.Format.{formatOf, kindOf, Checkpoint, image, padded}
 use Rattle.journal.specs.Writing.{recordsOf, checkpointOf}
 use Rattle.journal.proofs.Paging.{fill-one}
+use Rattle.journal.proofs.Naming.{kind-most}
 use Rattle.journal.proofs.Written.{image-length, padded-length}
-use Rattle.folding.specs.Fold.{byteChip, heldFrom, foldedSave, foldedBytes, heldBit, cellIf}
+use Rattle.folding.specs.Fold.{byteChip, heldFrom, namedFor, foldedSave, foldedBytes, heldBit, cellIf}
 
 -- ---- one cell
 
@@ -74,9 +75,9 @@ held-same xs h c (suc k) l =
     rw (h .members c (omega arith), r) (bool-cases (eqb (getD xs c 0) 0) (λ t. rw t refl) (λ t. rw t refl))
 
 -- its checkpoint is the folded save
-held-save : (xs : List ℕ) (last : Commit) {s : List ℕ} → SetIs s (heldBit xs) → checkpointOf s xs last ≡ foldedSave xs last
+held-save : (owner : ℕ) (xs : List ℕ) (last : Commit) {s : List ℕ} → SetIs s (heldBit xs) → checkpointOf s xs (namedFor owner last) ≡ foldedSave owner xs last
 unfolding checkpointOf members
-held-save xs last h = ap (λ (cs : List ℕ). record { records = recordsOf cs xs; commit = last }) (held-same xs h 0 256 (omega arith))
+held-save owner xs last h = ap (λ (cs : List ℕ). record { records = recordsOf cs xs; commit = namedFor owner last }) (held-same xs h 0 256 (omega arith))
 
 members-most : (s : List ℕ) (c k : ℕ) → length (membersFrom s c k) ≤ k
 unfolding membersFrom
@@ -86,28 +87,36 @@ members-most s c (suc k) =
     bool-cases (eqb (has s c) 1) (λ t. rw t (omega arith)) (λ t. rw t (omega arith))
 
 -- 256 records and a MARK
-size-most : (s xs : List ℕ) (last : Commit) → length (padded byteChip (checkpointOf s xs last)) ≤ 1550
+size-most : (owner : ℕ) (s xs : List ℕ) (last : Commit) → length (padded (byteChip owner) (checkpointOf s xs last)) ≤ 1554
 unfolding members
-size-most s xs last =
+size-most owner s xs last =
+    let G = byteChip owner in
     let c = checkpointOf s xs last in
-    omega (arith, padded-length byteChip c, fill-one (length (image c)), image-length s xs last, members-most s 0 256)
+    omega (arith, padded-length G c, fill-one (length (image G c)), image-length G s xs last, members-most s 0 256, kind-most owner)
 
 -- ---- the save in a buffer
 
 -- what the buffer and the number of its bytes have to be
-abbrev pub SaveIn : (end : ℕ) (xs : List ℕ) → Commit → (size : ℕ) (bytes : List ℕ) → Type 0
-SaveIn end xs last size bytes = (take size bytes ≡ foldedBytes end xs last) × (size ≤ length bytes) × (length bytes ≡ 1568)
+abbrev pub SaveIn : (owner end : ℕ) (xs : List ℕ) → Commit → (size : ℕ) (bytes : List ℕ) → Type 0
+SaveIn owner end xs last size bytes = (take size bytes ≡ foldedBytes owner end xs last) × (size ≤ length bytes) × (length bytes ≡ 1584)
 
-pub save-none : (end : ℕ) (xs bytes : List ℕ) (last : Commit) → end ≡ 0 → length bytes ≡ 1568 → SaveIn end xs last 0 bytes
+pub save-none : (owner end : ℕ) (xs bytes : List ℕ) (last : Commit) → end ≡ 0 → length bytes ≡ 1584 → SaveIn owner end xs last 0 bytes
 unfolding foldedBytes
-save-none end xs bytes last e l = (rw (eq-eqb end 0 e) refl, omega arith, l)
+save-none owner end xs bytes last e l = (rw (eq-eqb end 0 e) refl, omega arith, l)
 
-pub save-some : (end : ℕ) (xs bytes after : List ℕ) (last : Commit) {s : List ℕ} {size : ℕ} → ¬ (end ≡ 0) → length bytes ≡ 1568 → SetIs s (heldBit xs)
-    → size ≡ length (padded byteChip (checkpointOf s xs last)) → after ≡ sets bytes 0 (padded byteChip (checkpointOf s xs last)) → SaveIn end xs last size after
+-- what the buffer and the number are where the kind of MARK is k
+abbrev Stored : (k owner : ℕ) → Checkpoint → (bytes after : List ℕ) → (size : ℕ) → Type 0
+Stored k owner c bytes after size = (size ≡ length (padded (formatOf 1 k owner) c)) × (after ≡ sets bytes 0 (padded (formatOf 1 k owner) c))
+
+pub save-some : (owner end : ℕ) (xs bytes after : List ℕ) (last : Commit) {s : List ℕ} {k size : ℕ} {c : Commit} → ¬ (end ≡ 0) → length bytes ≡ 1584 → SetIs s (heldBit xs)
+    → k ≡ kindOf owner → c ≡ namedFor owner last → Stored k owner (checkpointOf s xs c) bytes after size → SaveIn owner end xs last size after
 unfolding foldedBytes
-save-some end xs bytes after last {s} {size} n l h z e =
-    let i = padded byteChip (checkpointOf s xs last) in
-    let m = size-most s xs last in
-    let k : length after ≡ 1568 = ap length e ∙ length-sets bytes 0 i ∙ l in
-    let q : after ≡ i ++ drop (0 + length i) bytes = e ∙ sets-eq i bytes 0 (omega arith) in
-    (rw (ne-eqb end 0 n) (ap (take size) q ∙ take-at i (drop (0 + length i) bytes) size (sym z) ∙ ap (padded byteChip) (held-save xs last h)), omega arith, k)
+save-some owner end xs bytes after last {s} {k} {size} {c} n l h kind commit stored =
+    let q : Stored (kindOf owner) owner (foldedSave owner xs last) bytes after size =
+    subst (λ (j : Checkpoint). Stored (kindOf owner) owner j bytes after size) (ap (checkpointOf s xs) commit ∙ held-save owner xs last h)
+    (subst (λ (j : ℕ). Stored j owner (checkpointOf s xs c) bytes after size) kind stored) in
+    let i = padded (byteChip owner) (foldedSave owner xs last) in
+    let m : length i ≤ 1554 = subst (λ (j : Checkpoint). length (padded (byteChip owner) j) ≤ 1554) (held-save owner xs last h) (size-most owner s xs (namedFor owner last)) in
+    let k : length after ≡ 1584 = ap length (q .1) ∙ length-sets bytes 0 i ∙ l in
+    let w : after ≡ i ++ drop (0 + length i) bytes = q .1 ∙ sets-eq i bytes 0 (omega arith) in
+    (rw (ne-eqb end 0 n) (ap (take size) w ∙ take-at i (drop (0 + length i) bytes) size (sym (q .0))), omega (arith, q .0), k)

@@ -1,7 +1,8 @@
--- The save that folding makes holds what the old chip holds: a chip with it and nothing else reads as the old one does (`folded-read`), and has the engine's shape (`folded-shape`).
+-- The save that folding makes holds what the old chip holds: a chip with it and nothing else reads as the old one does (`folded-read`), in the plan's name, and has the engine's shape (`folded-shape`).
 -- Assumes nothing.
 use Prim.Native.Nat.{ℕ, zero, suc, _+_, _^_, _≤_, _<_}
 use mathlib.Core.Path.{_≡_, refl, sym, _∙_, ap}
+use mathlib.Core.Bool.{Bool, true}
 use mathlib.Core.List.{List, [], _∷_, _++_, append-nil}
 use mathlib.Core.Logic.{inl, ⊎-elim}
 use native.Mathlib.Omega.{arith}
@@ -14,18 +15,20 @@ use Rattle.cellset.proofs.Members.{In, rising-from}
 use Rattle.instruction.specs.Bytes.{cellsOf}
 use Rattle.program.proofs.Tests.{bool-cases}
 use Rattle.journal.specs.declared.Commit.{Commit}
-use Rattle.journal.specs.Format.{Checkpoint, padded, images}
-use Rattle.journal.specs.Reading.{Facts, first, Once, After, Rising, lastOf, savedIn, savedValue}
+use Rattle.journal.specs.Format.{Checkpoint, unowned, ownerOf, padded, images}
+use Rattle.journal.specs.Reading.{first, Once, After, Rising, lastOf, ownAll, savedIn, savedValue}
 use Rattle.journal.specs.Writing.{recordsOf}
 use Rattle.journal.specs.Answer.{Taken}
 use Rattle.journal.specs.Shape.{Shape}
 use Rattle.journal.proofs.Paging.{fill-one}
 use Rattle.journal.proofs.Decoding.{image-some, padded-length}
 use Rattle.journal.proofs.Torn.{trimmed-nil}
+use Rattle.journal.proofs.Apart.{after-renamed}
 use Rattle.journal.proofs.Back.{shape-whole}
 use Rattle.journal.proofs.Written.{records-absent, records-once, records-value, absent-saved}
 use Rattle.journal.proofs.Saves.{last-has, saved-has}
-use Rattle.folding.specs.Fold.{byteChip, byteFacts, heldFrom, foldedSave, foldedBytes}
+use Rattle.journal.proofs.Naming.{owner-fits, owner-small}
+use Rattle.folding.specs.Fold.{byteChip, byteFacts, heldFrom, namedFor, foldedSave, foldedBytes}
 
 -- ---- the cells whose value is not 0, of the k from a on
 
@@ -75,28 +78,24 @@ module _ (xs : List ℕ) where
 
 -- ---- the save
 
--- the bytes are those of checkpoints, one or none, with this last commit and these values
+-- a mark's fields but the owner
+abbrev pub unnamed : Commit → Commit
+unnamed c = namedFor unowned c
+
+-- the bytes are those of checkpoints, one or none, which name the plan, with this last commit but for its owner and these values
 pub record Kept (p bytes : List ℕ) (last : Commit) (values : List ℕ) : Type 0 where
   pub saves : List Checkpoint
-  pub rising : Rising (byteFacts p) first saves
-  pub images-are : images byteChip saves ≡ bytes
-  pub last-is : lastOf first saves ≡ last
+  pub rising : Rising (byteFacts (ownerOf p) p) first saves
+  pub images-are : images (byteChip (ownerOf p)) saves ≡ bytes
+  pub last-is : unnamed (lastOf first saves) ≡ unnamed last
+  pub own : ownAll (ownerOf p) saves ≡ true
   pub values-are : (c : ℕ) → c < 256 → getD values c 0 ≡ savedValue c saves 0
 
--- what is sound after another is sound as the first
-after-first : {F : Facts} {b c : Commit} → After F b c → After F first c
-after-first a = record {
-  place-is = a .place-is;
-  place-fits = a .place-fits;
-  exclude-is = a .exclude-is;
-  exclude-fits = a .exclude-fits;
-  readings-rise = omega arith;
-  readings-fit = a .readings-fit;
-  outputs-rise = omega arith;
-  outputs-fit = a .outputs-fit;
-}
+-- what is sound after another is sound as the first, in the plan's name
+after-named : (owner : ℕ) (p : List ℕ) {b c : Commit} → After (byteFacts owner p) b c → After (byteFacts (ownerOf p) p) first (namedFor (ownerOf p) c)
+after-named owner p a = after-renamed (byteChip owner) (byteChip (ownerOf p)) p (ownerOf p) a (omega arith) (omega arith) (owner-fits (ownerOf p) (owner-small p))
 
-module _ (p values : List ℕ) (size : length values ≡ 256) (js : List Checkpoint) (rising : Rising (byteFacts p) first js)
+module _ (owner : ℕ) (p values : List ℕ) (size : length values ≡ 256) (js : List Checkpoint) (rising : Rising (byteFacts owner p) first js)
     (values-are : (c : ℕ) → c < 256 → getD values c 0 ≡ savedValue c js 0) where
   -- a value has what each saved value has, and 0
   value-has : (Q : ℕ → Type 0) (c : ℕ) → Q 0 → Q (savedValue c js 0) → Q (getD values c 0)
@@ -122,40 +121,44 @@ module _ (p values : List ℕ) (size : length values ≡ 256) (js : List Checkpo
   held-once : Once (cellsOf p) (recordsOf (heldFrom values 0 256) values)
   held-once = records-once (cellsOf p) (heldFrom values 0 256) values (held-rising values 0 256) (λ c i. value-exists c (held-only values c 0 256 i)) value-small
 
-keep : (p values : List ℕ) → length values ≡ 256 → (js : List Checkpoint) → Rising (byteFacts p) first js → ((c : ℕ) → c < 256 → getD values c 0 ≡ savedValue c js 0)
-    → (end : ℕ) (last : Commit) → end ≡ length (images byteChip js) → last ≡ lastOf first js → Kept p (foldedBytes end values last) last values
-unfolding foldedBytes images lastOf savedValue
-keep p values size [] rising v end last e k =
-    record { saves = []; rising = Rising.none; images-are = rw (eq-eqb end 0 e); last-is = sym k; values-are = v }
-keep p values size (s ∷ js) (Rising.one sound more) v end last e k =
-    let n : ¬ (end ≡ 0) = λ z. omega (arith, e, length-append (padded byteChip s) (images byteChip js), padded-length byteChip s, image-some s) in
-    let a : After (byteFacts p) first last = rw k (last-has (After (byteFacts p) first) (λ b c h. after-first h) (after-first (sound .after)) more) in
+keep : (owner : ℕ) (p values : List ℕ) → length values ≡ 256 → (js : List Checkpoint) → Rising (byteFacts owner p) first js
+    → ((c : ℕ) → c < 256 → getD values c 0 ≡ savedValue c js 0)
+    → (end : ℕ) (last : Commit) → end ≡ length (images (byteChip owner) js) → last ≡ lastOf first js → Kept p (foldedBytes (ownerOf p) end values last) last values
+unfolding foldedBytes images lastOf savedValue ownAll
+keep owner p values size [] rising v end last e k =
+    record { saves = []; rising = Rising.none; images-are = rw (eq-eqb end 0 e); last-is = ap unnamed (sym k); own = refl; values-are = v }
+keep owner p values size (s ∷ js) (Rising.one sound more) v end last e k =
+    let G = byteChip owner in
+    let n : ¬ (end ≡ 0) = λ z. omega (arith, e, length-append (padded G s) (images G js), padded-length G s, image-some G s) in
+    let P : Commit → Type 0 = λ c. After (byteFacts (ownerOf p) p) first (namedFor (ownerOf p) c) in
+    let a : P last = rw k (last-has P (λ b c h. after-named owner p h) (after-named owner p (sound .after)) more) in
     record {
-      saves = foldedSave values last ∷ [];
-      rising = Rising.one (record { once = held-once p values size (s ∷ js) (Rising.one sound more) v; after = a }) Rising.none;
-      images-are = rw (ne-eqb end 0 n) (append-nil (padded byteChip (foldedSave values last)));
+      saves = foldedSave (ownerOf p) values last ∷ [];
+      rising = Rising.one (record { once = held-once owner p values size (s ∷ js) (Rising.one sound more) v; after = a }) Rising.none;
+      images-are = rw (ne-eqb end 0 n) (append-nil (padded (byteChip (ownerOf p)) (foldedSave (ownerOf p) values last)));
       last-is = refl;
+      own = rw (eq-eqb (ownerOf p) (ownerOf p) refl) refl;
       values-are = λ c h. sym (held-value values c h);
     }
 
 -- ---- the finished chip
 
-module _ (p : List ℕ) {old : List ℕ} {end torn : ℕ} {last : Commit} {values : List ℕ} (t : Taken (byteFacts p) old end torn last values) where
-  pub kept : Kept p (foldedBytes end values last) last values
-  kept = keep p values (t .cells) (t .saves) (t .reading .sound) (t .values-are) end last (t .end-is) (t .last-is)
+module _ (p : List ℕ) {old : List ℕ} {owner end torn : ℕ} {last : Commit} {own : Bool} {values : List ℕ} (t : Taken (byteFacts owner p) old end torn last own values) where
+  pub kept : Kept p (foldedBytes (ownerOf p) end values last) last values
+  kept = keep owner p values (t .cells) (t .saves) (t .reading .sound) (t .values-are) end last (t .end-is) (t .last-is)
 
-  module _ {new : List ℕ} (free : ℕ) (bytes : new ≡ foldedBytes end values last ++ replicate free 0xFF) where
+  module _ {new : List ℕ} (free : ℕ) (bytes : new ≡ foldedBytes (ownerOf p) end values last ++ replicate free 0xFF) where
     -- it has the shape, with nothing torn
-    pub folded-shape : Shape (byteFacts p) new (kept .saves) []
+    pub folded-shape : Shape (byteFacts (ownerOf p) p) new (kept .saves) []
     folded-shape = record {
       free = free;
       rising = kept .rising;
       cut = inl refl;
-      bytes = bytes ∙ ap (λ (l : List ℕ). l ++ replicate free 0xFF) (sym (kept .images-are) ∙ sym (append-nil (images byteChip (kept .saves))));
+      bytes = bytes ∙ ap (λ (l : List ℕ). l ++ replicate free 0xFF) (sym (kept .images-are) ∙ sym (append-nil (images (byteChip (ownerOf p)) (kept .saves))));
     }
 
-    -- IT READS AS THE OLD CHIP DOES: the same last commit and values, with nothing to erase
-    pub folded-read : Taken (byteFacts p) new (length (foldedBytes end values last)) 0 last values
+    -- IT READS AS THE OLD CHIP DOES: the same last commit but for its owner (`last-is` of `Kept`) and the same values, with nothing to erase, and in the plan's name
+    pub folded-read : Taken (byteFacts (ownerOf p) p) new (length (foldedBytes (ownerOf p) end values last)) 0 (lastOf first (kept .saves)) true values
     folded-read = record {
       saves = kept .saves;
       rest = [];
@@ -163,7 +166,8 @@ module _ (p : List ℕ) {old : List ℕ} {end torn : ℕ} {last : Commit} {value
       accepted = inl refl;
       end-is = ap length (sym (kept .images-are));
       torn-is = omega (arith, fill-one 0);
-      last-is = sym (kept .last-is);
+      last-is = refl;
+      own-is = sym (kept .own);
       cells = t .cells;
       values-are = kept .values-are;
     }

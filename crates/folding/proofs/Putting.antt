@@ -1,6 +1,6 @@
--- From what the parts of folding answer to what a call leaves: `put-differs`, `put-long` and `put-stores` on the new chip, the refusals by their tests, and `folded` by scan's answer.
+-- From what the parts of folding answer to what a call leaves: `put-differs`, `put-long` and `put-stores` on the new chip, the refusals by their tests, and by scan's answer `folded`, `folded-older` and their refusals.
 -- Assumes nothing.
-use Prim.Native.Nat.{ℕ, _≤_, _<_}
+use Prim.Native.Nat.{ℕ, _+_, _≤_, _<_}
 use mathlib.Core.Path.{_≡_, refl, sym, _∙_, ap, subst}
 use mathlib.Core.Bool.{Bool, true, false, not, cond, _&&_, and-false}
 use mathlib.Core.List.{List}
@@ -9,20 +9,22 @@ use lib.ListN.{length, take}
 use lib.Seq.{length-take-le}
 use lib.Dec.{eqb}
 use borrow.Author.Tests.{lt-ltb, le-ltb, ne-eqb}
+use Rattle.instruction.specs.Bytes.{byte}
 use Rattle.program.specs.Grounds.{Checks}
 use Rattle.program.specs.declared.Checked.the-variants as checked
 use Rattle.program.proofs.Tests.{clash}
 use Rattle.journal.specs.declared.Commit.{Commit}
 use Rattle.journal.specs.declared.Scanned.{Scanned}
 use Rattle.journal.specs.declared.Scanned.the-variants.{BadLength, Damaged, Found}
-use Rattle.journal.specs.Format.{chipLength}
+use Rattle.journal.specs.Format.{unowned, ownerOf, chipLength}
+use Rattle.journal.specs.Reading.{Facts}
 use Rattle.journal.specs.Parts.{Decides}
-use Rattle.journal.specs.Answer.{Scans}
+use Rattle.journal.specs.Answer.{factsIn, Scans}
 use Rattle.step.specs.State.{envOf}
 use Rattle.step.specs.Ready.{Legal}
-use Rattle.recovery.proofs.Recovering.{not-zero, Answered}
+use Rattle.recovery.proofs.Recovering.{not-zero, table-facts, Answered}
 use Rattle.folding.specs.declared.Folded.the-variants.{Stored, Refused}
-use Rattle.folding.specs.Fold.{byteFacts, foldedBytes, refusalOf, Outcome, outcome, progress, foldSteps, Begun, answered, Puts, Folds}
+use Rattle.folding.specs.Fold.{byteChip, byteFacts, Holds, foldedBytes, refusalOf, Outcome, outcome, progress, foldSteps, Begun, answered, Puts, Folds, FoldsOlder}
 
 -- ---- on the new chip, where the save is the first `size` bytes of a buffer
 
@@ -84,19 +86,62 @@ new-fits n false e h = clash true refl h
 
 -- ---- by what scan answers
 
-module _ {p ws table old : List ℕ} {answer : Scanned} {v : List ℕ} (a : Answered 1 p ws table old answer v) (new : List ℕ) (k b : ℕ) (fits : chipLength 1 (length new) ≡ true) where
+-- by a table's facts and marks that name no plan
+abbrev olderFacts : (highest : ℕ) (table : List ℕ) → Facts
+olderFacts highest table = factsIn (byteChip unowned) (highest + 1) table
+
+module _ (highest : ℕ) (table old : List ℕ) (answer : Scanned) (v : List ℕ) (scans : Scans (olderFacts highest table) old answer v) (owner : ℕ) (new : List ℕ) (k b : ℕ) where
   -- the reading of the old chip, of which it is the answer
-  read : {x : Scanned} → answer ≡ x → Scans (byteFacts p) old x v
-  read e = rw e at (a .scans)
+  read-older : {x : Scanned} → answer ≡ x → Scans (olderFacts highest table) old x v
+  read-older e = rw e at scans
+
+  -- its length is one that a chip may have
+  pub older-length : chipLength 1 (length old) ≡ true → {r : Outcome} → answer ≡ BadLength → FoldsOlder (olderFacts highest table) owner old new k b r
+  older-length l e = clash _ l (read-older e .0)
+
+  pub older-damaged : {n : ℕ} → answer ≡ Damaged → n ≡ 12 → FoldsOlder (olderFacts highest table) owner old new k b (outcome (Refused n) new)
+  older-damaged e h = rw h (FoldsOlder.damaged (read-older e .1) refl)
+
+  pub older-found : {end torn : ℕ} {last : Commit} {own : Bool} {r : Outcome} → answer ≡ Found end torn last own → Puts (foldedBytes owner end v last) new k b r
+      → FoldsOlder (olderFacts highest table) owner old new k b r
+  older-found e q = FoldsOlder.reads (read-older e .1) q
+
+-- by the marks that name the plan
+module _ {owner : ℕ} {p ws table old : List ℕ} {answer : Scanned} {v : List ℕ} (a : Answered 1 owner p ws table old answer v) (plan : owner ≡ ownerOf p) (new : List ℕ) (k b : ℕ)
+    (fits : chipLength 1 (length new) ≡ true) where
+  -- the reading of the old chip, of which it is the answer
+  read : {x : Scanned} → answer ≡ x → Scans (byteFacts (ownerOf p) p) old x v
+  read {x} e = subst (λ (i : ℕ). Scans (byteFacts i p) old x v) plan (rw e at (a .scans))
 
   no-refusal : chipLength 1 (length old) ≡ true → refusalOf (envOf p ws) (length old) (length new) ≡ 0
   no-refusal e = by-lengths p ws old new k b (a .legal) (a .words) true (rw (e, fits))
 
-  pub refused-old : answer ≡ BadLength → Folds (envOf p ws) old new k b (outcome (Refused 11) new)
-  refused-old e = Folds.refuses 11 (by-lengths p ws old new k b (a .legal) (a .words) false (rw (read e .0))) (omega arith) refl
+  pub refused-old : {n : ℕ} → answer ≡ BadLength → n ≡ 11 → Folds (envOf p ws) old new k b (outcome (Refused n) new)
+  refused-old e h = rw h (Folds.refuses 11 (by-lengths p ws old new k b (a .legal) (a .words) false (rw (read e .0))) (omega arith) refl)
 
-  pub refused-damaged : answer ≡ Damaged → Folds (envOf p ws) old new k b (outcome (Refused 12) new)
-  refused-damaged e = let d = read e in Folds.damaged (no-refusal (d .0)) (d .1) refl
+  -- a chip that is damaged so has a length that a chip may have
+  pub damaged-length : answer ≡ Damaged → chipLength 1 (length old) ≡ true
+  damaged-length e = read e .0
 
-  pub folded : {end torn : ℕ} {last : Commit} {r : Outcome} → answer ≡ Found end torn last → Puts (foldedBytes end v last) new k b r → Folds (envOf p ws) old new k b r
-  folded {end} {torn} {last} e q = let t = read e in Folds.reads (no-refusal (t .0)) end torn last v (t .1) q
+  -- 12, or what was found with marks that name no plan
+  folded-other : {r : Outcome} → answer ≡ Damaged → FoldsOlder (byteFacts unowned p) (ownerOf p) old new k b r → Folds (envOf p ws) old new k b r
+  folded-other e (FoldsOlder.damaged d x) = let f = read e in Folds.damaged (no-refusal (f .0)) (f .1) d x
+  folded-other e (FoldsOlder.reads t q) = let f = read e in Folds.reads (no-refusal (f .0)) unowned _ _ _ _ (Holds.older (f .1) t) q
+
+  -- whose facts are the program's
+  pub folded-older : {highest : ℕ} {r : Outcome} → answer ≡ Damaged → highest ≡ byte p 0
+      → FoldsOlder (olderFacts highest table) owner old new k b r → Folds (envOf p ws) old new k b r
+  folded-older {highest} {r} e h f =
+      folded-other e (subst (λ (i : ℕ). FoldsOlder (byteFacts unowned p) i old new k b r) plan
+      (subst (λ (F : Facts). FoldsOlder F owner old new k b r) (table-facts 1 unowned p table (a .places) h) f))
+
+  -- 16: a mark of another plan
+  pub refused-owner : {n end torn : ℕ} {last : Commit} {own : Bool} → answer ≡ Found end torn last own → own ≡ false → n ≡ 16
+      → Folds (envOf p ws) old new k b (outcome (Refused n) new)
+  refused-owner e f h = let t = rw f at (read e) in rw h (Folds.another (no-refusal (t .0)) (t .1) refl)
+
+  pub folded : {end torn : ℕ} {last : Commit} {own : Bool} {r : Outcome} → answer ≡ Found end torn last own → own ≡ true → Puts (foldedBytes owner end v last) new k b r
+      → Folds (envOf p ws) old new k b r
+  folded {end} {torn} {last} {own} {r} e f q =
+      let t = rw f at (read e) in
+      Folds.reads (no-refusal (t .0)) (ownerOf p) end torn last v (Holds.today (t .1)) (subst (λ (i : ℕ). Puts (foldedBytes i end v last) new k b r) plan q)

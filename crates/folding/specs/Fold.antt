@@ -1,8 +1,8 @@
--- Folding: document 02, Q-6, "Folding a full chip". What a chip holds is crate `journal`'s; here is the save that is made of it, and one call.
+-- Folding: document 02, Q-6, "Folding a full chip", and Q-8, "folding reads such a byte chip and writes `A3`". What a chip holds is crate `journal`'s; here is the save that is made of it, and one call.
 -- Assumes nothing.
 use Prim.Native.Nat.{ℕ, zero, suc, _+_, _≤_, _<_, min}
 use mathlib.Core.Path.{_≡_}
-use mathlib.Core.Bool.{false, cond, _&&_}
+use mathlib.Core.Bool.{Bool, true, false, cond, _&&_}
 use mathlib.Core.List.{List, [], _∷_, _++_}
 use lib.ListN.{length, getD, set, take, replicate}
 use lib.Dec.{eqb, ltb}
@@ -10,7 +10,7 @@ use Rattle.cellset.specs.Bits.{is}
 use Rattle.program.specs.Check.{Answer, checkOf, numberOf}
 use Rattle.program.specs.Grounds.{Allowed, CallGround}
 use Rattle.journal.specs.declared.Commit.{Commit}
-use Rattle.journal.specs.Format.{Format, formatOf, chipLength, Checkpoint, padded}
+use Rattle.journal.specs.Format.{Format, unowned, ownerOf, formatFor, chipLength, Checkpoint, padded}
 use Rattle.journal.specs.Reading.{Facts, factsOf, Damaged}
 use Rattle.journal.specs.Writing.{recordsOf}
 use Rattle.journal.specs.Answer.{Taken}
@@ -20,26 +20,36 @@ use Rattle.folding.specs.declared.Folded.the-variants.{Stored, Refused}
 
 -- ---- the save
 
--- "Both are byte chips"
-abbrev pub byteChip : Format
-byteChip = formatOf 1
+-- "Both are byte chips", the marks of the one naming the plan or none, those of the other naming the plan
+abbrev pub byteChip : (owner : ℕ) → Format
+byteChip owner = formatFor 1 owner
 
 -- what such a chip is read by
-abbrev pub byteFacts : (p : List ℕ) → Facts
-byteFacts p = factsOf byteChip p
+abbrev pub byteFacts : (owner : ℕ) → (p : List ℕ) → Facts
+byteFacts owner p = factsOf (byteChip owner) p
+
+-- what an old chip holds: read with marks that name the plan, every one of them the plan's; or, where it is damaged so, with marks that name no plan, `A2`
+pub data Holds (p old : List ℕ) : (owner end torn : ℕ) → Commit → (values : List ℕ) → Type 0 where
+  today : {end torn : ℕ} {last : Commit} {values : List ℕ} → Taken (byteFacts (ownerOf p) p) old end torn last true values → Holds p old (ownerOf p) end torn last values
+  older : {end torn : ℕ} {last : Commit} {own : Bool} {values : List ℕ} → Damaged (byteFacts (ownerOf p) p) old → Taken (byteFacts unowned p) old end torn last own values
+      → Holds p old unowned end torn last values
 
 -- of the k cells from a on those whose value is not 0, rising
 unfoldable pub heldFrom : (values : List ℕ) (a k : ℕ) → List ℕ
 heldFrom values a zero = []
 heldFrom values a (suc k) = cond (eqb (getD values a 0) 0) (heldFrom values (suc a) k) (a ∷ heldFrom values (suc a) k)
 
--- "one save on the new chip: every cell whose recovered value is not 0, rising, and the last mark's fields"
-abbrev pub foldedSave : (values : List ℕ) → Commit → Checkpoint
-foldedSave values last = record { records = recordsOf (heldFrom values 0 256) values; commit = last }
+-- a mark's fields, in the owner's name
+abbrev pub namedFor : (owner : ℕ) → Commit → Commit
+namedFor owner c = record { place = c .place; exclude = c .exclude; readings = c .readings; outputs = c .outputs; owner = owner }
+
+-- "one save on the new chip: every cell whose recovered value is not 0, rising, and the last mark's fields", with the plan's length and sum
+abbrev pub foldedSave : (owner : ℕ) → (values : List ℕ) → Commit → Checkpoint
+foldedSave owner values last = record { records = recordsOf (heldFrom values 0 256) values; commit = namedFor owner last }
 
 -- its bytes; "An old chip with no whole save leaves the new one blank": its whole saves end at 0
-unfoldable pub foldedBytes : (end : ℕ) (values : List ℕ) → Commit → List ℕ
-foldedBytes end values last = cond (eqb end 0) [] (padded byteChip (foldedSave values last))
+unfoldable pub foldedBytes : (owner end : ℕ) (values : List ℕ) → Commit → List ℕ
+foldedBytes owner end values last = cond (eqb end 0) [] (padded (byteChip owner) (foldedSave owner values last))
 
 -- ---- one call
 
@@ -92,10 +102,14 @@ pub data Puts (save new : List ℕ) (stored budget : ℕ) (r : Outcome) : Type 0
 -- what a call leaves for the program and the words e. A chip has one reading (`scan-fixed` of crate `journal`), so this is one outcome (`one-fold` of proofs/Calls.antt)
 pub data Folds (e : Env) (old new : List ℕ) (stored budget : ℕ) (r : Outcome) : Type 0 where
   refuses : (n : ℕ) → refusalOf e (length old) (length new) ≡ n → 0 < n → r ≡ outcome (Refused n) new → Folds e old new stored budget r
-  -- "so 12 is no longer recovery's alone", as 01's "Only recovery gives 12" had it
-  damaged : refusalOf e (length old) (length new) ≡ 0 → Damaged (byteFacts (e .program)) old → r ≡ outcome (Refused 12) new → Folds e old new stored budget r
-  reads : refusalOf e (length old) (length new) ≡ 0 → (end torn : ℕ) (last : Commit) (values : List ℕ)
-      → Taken (byteFacts (e .program)) old end torn last values → Puts (foldedBytes end values last) new stored budget r → Folds e old new stored budget r
+  -- "so 12 is no longer recovery's alone", as 01's "Only recovery gives 12" had it; here it is for a chip that is damaged read either way
+  damaged : refusalOf e (length old) (length new) ≡ 0 → Damaged (byteFacts (ownerOf (e .program)) (e .program)) old → Damaged (byteFacts unowned (e .program)) old
+      → r ≡ outcome (Refused 12) new → Folds e old new stored budget r
+  -- "folding gives only 16, before 13"
+  another : refusalOf e (length old) (length new) ≡ 0 → {end torn : ℕ} {last : Commit} {values : List ℕ}
+      → Taken (byteFacts (ownerOf (e .program)) (e .program)) old end torn last false values → r ≡ outcome (Refused 16) new → Folds e old new stored budget r
+  reads : refusalOf e (length old) (length new) ≡ 0 → (owner end torn : ℕ) (last : Commit) (values : List ℕ)
+      → Holds (e .program) old owner end torn last values → Puts (foldedBytes (ownerOf (e .program)) end values last) new stored budget r → Folds e old new stored budget r
 
 -- ---- the answer by its grounds
 
@@ -104,14 +118,15 @@ abbrev pub answerOf : Folded → Answer
 answerOf (Stored stored finished) = record { number = 0; values = stored ∷ cond finished 1 0 ∷ [] }
 answerOf (Refused n) = record { number = n; values = [] }
 
--- the grounds of its own refusals: 11 either chip, 12 the old one; "otherwise only 13 and 14 test the new one"
+-- the grounds of its own refusals: 11 either chip, 12 and 16 the old one; "otherwise only 13 and 14 test the new one", for an old chip that is the plan's
 pub data LateGround (p old new : List ℕ) (stored : ℕ) : ℕ → Type 0 where
   size : (chipLength 1 (length old) && chipLength 1 (length new)) ≡ false → LateGround p old new stored 11
-  damage : Damaged (byteFacts p) old → LateGround p old new stored 12
-  other : {end torn : ℕ} {last : Commit} {values : List ℕ} → Taken (byteFacts p) old end torn last values → ¬ Begun (foldedBytes end values last) stored new
+  damage : Damaged (byteFacts (ownerOf p) p) old → Damaged (byteFacts unowned p) old → LateGround p old new stored 12
+  other : {owner end torn : ℕ} {last : Commit} {values : List ℕ} → Holds p old owner end torn last values → ¬ Begun (foldedBytes (ownerOf p) end values last) stored new
       → LateGround p old new stored 13
-  short : {end torn : ℕ} {last : Commit} {values : List ℕ} → Taken (byteFacts p) old end torn last values → length new < length (foldedBytes end values last)
+  short : {owner end torn : ℕ} {last : Commit} {values : List ℕ} → Holds p old owner end torn last values → length new < length (foldedBytes (ownerOf p) end values last)
       → LateGround p old new stored 14
+  another : {end torn : ℕ} {last : Commit} {values : List ℕ} → Taken (byteFacts (ownerOf p) p) old end torn last false values → LateGround p old new stored 16
 
 -- with 1 to 8 check's, and 9 "a word buffer too short"
 abbrev pub Ground : Env → (old new : List ℕ) → (stored : ℕ) → ℕ → Type 0
@@ -122,8 +137,8 @@ abbrev pub numbersOf : (save : List ℕ) (stored budget : ℕ) → List ℕ
 numbersOf save stored budget = let after = min (stored + budget) (length save) in after ∷ cond (eqb after (length save)) 1 0 ∷ []
 
 pub data Spent (p old : List ℕ) (stored budget : ℕ) : List ℕ → Type 0 where
-  spent : {end torn : ℕ} {last : Commit} {values : List ℕ} → Taken (byteFacts p) old end torn last values
-      → Spent p old stored budget (numbersOf (foldedBytes end values last) stored budget)
+  spent : {owner end torn : ℕ} {last : Commit} {values : List ℕ} → Holds p old owner end torn last values
+      → Spent p old stored budget (numbersOf (foldedBytes (ownerOf p) end values last) stored budget)
 
 -- THE CONTRACT OF A CALL: its outcome is the defined one, and in 01's terms the answer is the one that the grounds allow, in rising order
 pub record FoldIs (e : Env) (old new : List ℕ) (stored budget : ℕ) (r : Outcome) : Type 0 where
@@ -131,6 +146,12 @@ pub record FoldIs (e : Env) (old new : List ℕ) (stored budget : ℕ) (r : Outc
   pub ruled : Allowed (Ground e old new stored) (Spent (e .program) old stored budget) (answerOf (r .answer))
 
 -- ---- parts of the code
+
+-- what is made of an old chip that is damaged as one of the plan's: F reads it with marks that name none
+pub data FoldsOlder (F : Facts) (owner : ℕ) (old new : List ℕ) (stored budget : ℕ) (r : Outcome) : Type 0 where
+  damaged : Damaged F old → r ≡ outcome (Refused 12) new → FoldsOlder F owner old new stored budget r
+  reads : {end torn : ℕ} {last : Commit} {own : Bool} {values : List ℕ} → Taken F old end torn last own values → Puts (foldedBytes owner end values last) new stored budget r
+      → FoldsOlder F owner old new stored budget r
 
 -- 1 where the value of cell c is not 0
 abbrev pub heldBit : (values : List ℕ) → ℕ → ℕ

@@ -8,14 +8,14 @@ use lib.ListN.{length, take, replicate}
 use lib.Dec.{eqb}
 use Rattle.journal.specs.declared.Commit.{Commit}
 use Rattle.journal.specs.Parts.{Content}
-use Rattle.journal.specs.Answer.{Taken}
+use Rattle.journal.specs.Format.{ownerOf}
 use Rattle.step.specs.State.{Env, envOf, Machine}
 use Rattle.step.specs.Ready.{Legal}
 use Rattle.recovery.specs.Recover as recovery
 use Rattle.recovery.specs.Recover.{Recovers}
 use Rattle.recovery.specs.declared.Recovered.the-variants.{Restored}
 use Rattle.folding.specs.declared.Folded.the-variants.{Stored}
-use Rattle.folding.specs.Fold.{byteFacts, foldedBytes, Outcome, outcome, Begun, Folds, answerOf}
+use Rattle.folding.specs.Fold.{Holds, foldedBytes, Outcome, outcome, Begun, Folds, answerOf}
 
 -- what calls bring a new chip of n bytes to, which is blank at first
 pub data Folding (p old : List ℕ) (n : ℕ) : List ℕ → Type 0 where
@@ -60,8 +60,8 @@ pub record Finished (p old new : List ℕ) : Type 0 where
   pub count : ℕ
   pub call : Folds (envOf p words) old before stored budget (outcome (Stored count true) new)
 
--- of an old chip whose save is `save`, and a new chip of n bytes that calls and cuts have brought to `new`
-pub record FoldClaim (p old save : List ℕ) (n : ℕ) (new : List ℕ) : Type 0 where
+-- of an old chip whose marks name `owner` and whose save is `save`, and a new chip of n bytes that calls and cuts have brought to `new`
+pub record FoldClaim (p old : List ℕ) (owner : ℕ) (save : List ℕ) (n : ℕ) (new : List ℕ) : Type 0 where
   -- "A cut during folding leaves the new chip with a beginning of that save, or the whole."
   pub size : length new ≡ n
   pub stored : ℕ
@@ -75,13 +75,15 @@ pub record FoldClaim (p old save : List ℕ) (n : ℕ) (new : List ℕ) : Type 0
   -- finished, the new chip has the whole save
   pub finishes : (words : List ℕ) (stored budget count : ℕ) (after : List ℕ) → Folds (envOf p words) old new stored budget (outcome (Stored count true) after)
       → (count ≡ length save) × (after ≡ save ++ replicate (n - length save) 0xFF)
-  -- "recovering old or finished new must give the same state except for write position and bytes to erase"
+  -- "recovering old or finished new must give the same state except for write position and bytes to erase"; with `A2` marks "the finished chip recovers to the state
+  -- that the old one gave until now", by the recovery for marks that name no plan
   pub recovers : (lent words : List ℕ) (stored budget count : ℕ) (after : List ℕ) → Folds (envOf p lent) old new stored budget (outcome (Stored count true) after)
-      → (m m′ : Machine) → m .journal ≡ old → m′ .journal ≡ after → (a b : recovery.Outcome) → Recovers (envOf p words) 1 m a → Recovers (envOf p words) 1 m′ b
+      → (m m′ : Machine) → m .journal ≡ old → m′ .journal ≡ after → (a b : recovery.Outcome) → Recovers (envOf p words) 1 owner m a
+      → Recovers (envOf p words) 1 (ownerOf p) m′ b
       → a .answer ≡ Restored → (b .answer ≡ Restored) × SameState (a .machine) (b .machine)
 
--- for every plan and old chip that is not damaged, and every list of calls and cuts
+-- for every plan, every old chip that is neither damaged nor another plan's, and every list of calls and cuts
 abbrev pub Q6 : Type 0
 Q6 =
-    (p : List ℕ) → Legal p → (old : List ℕ) (end torn : ℕ) (last : Commit) (values : List ℕ) → Taken (byteFacts p) old end torn last values
-    → (n : ℕ) (new : List ℕ) → Folding p old n new → FoldClaim p old (foldedBytes end values last) n new
+    (p : List ℕ) → Legal p → (old : List ℕ) (owner end torn : ℕ) (last : Commit) (values : List ℕ) → Holds p old owner end torn last values
+    → (n : ℕ) (new : List ℕ) → Folding p old n new → FoldClaim p old owner (foldedBytes (ownerOf p) end values last) n new

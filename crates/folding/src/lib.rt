@@ -1,5 +1,5 @@
 // Folding (document 02, Q-6): what a full byte chip holds goes onto a blank one as one checkpoint (save), by
-// steps of one byte. `fold` takes any program, words, chips and numbers, and is `FoldIs` of specs/Fold.antt;
+// steps of one byte. The old chip's MARKs name the plan, or none (Q-8); those of the new one name it. `fold` takes any program, words, chips and numbers, and is `FoldIs` of specs/Fold.antt;
 // specs/Lists.antt states what every list of its calls and cuts leaves, and proofs/Theorem.antt has it. That a
 // batch goes on with the new chip is proved in crate `batch`.
 use cellset::CellSet;
@@ -10,6 +10,9 @@ use instruction::byte_at;
 use journal::Commit;
 use journal::ERASED;
 use journal::Scanned;
+use journal::owners::UNOWNED;
+use journal::owners::kind_of;
+use journal::owners::owner_of;
 use journal::pages::is_length;
 use journal::scan;
 use journal::writing::image_into;
@@ -17,14 +20,17 @@ use program::Checked;
 use program::examine;
 use program::places::blank;
 ghost use mathlib.Core.Path.{_≡_};
-ghost use Prim.Native.Nat.{_≤_, min};
+ghost use mathlib.Core.Bool.{true};
+ghost use Prim.Native.Nat.{_+_, _≤_, min};
 ghost use lib.ListN.{length, take};
 ghost use Rattle.cellset.specs.Sets.{SetIs};
 ghost use Rattle.program.specs.Places.{Places};
+ghost use Rattle.journal.specs.Format.{chipLength, unowned, formatFor};
+ghost use Rattle.journal.specs.Answer.{factsIn};
 ghost use Rattle.journal.specs.Parts.{Decides};
 ghost use Rattle.step.specs.State.{envOf};
 ghost use Rattle.step.specs.Ready.{Legal};
-ghost use Rattle.folding.specs.Fold.{heldBit, cellIf, BlankFrom, foldedBytes, outcome, progress, foldSteps, Begun, Puts, Folds, FoldIs};
+ghost use Rattle.folding.specs.Fold.{heldBit, cellIf, BlankFrom, namedFor, foldedBytes, outcome, progress, foldSteps, Begun, Puts, FoldsOlder, Folds, FoldIs};
 
 // The answer: how many bytes of the save now stand on the new chip and whether these are all, or why not.
 // `answerOf` of specs/Fold.antt gives document 02's number.
@@ -35,7 +41,7 @@ pub enum Folded {
 
 // A save: the first `size` bytes of a buffer.
 struct Save {
-    bytes: [u8; 1568],
+    bytes: [u8; 1584],
     size: usize,
 }
 
@@ -65,21 +71,43 @@ fn held(values: &[u32; 256]) -> CellSet
     s
 }
 
-// The save of a chip with these values and this last commit, no bytes where its whole checkpoints end at 0.
-fn save_of(end: usize, values: &[u32; 256], last: Commit) -> Save
-    ensures { λ r. ⌜ (take (r .size) (r .bytes) ≡ foldedBytes end (now (values .entry)) last) × (r .size ≤ length (r .bytes)) × (length (r .bytes) ≡ 1568) ⌝ }
+// The last commit, in a plan's name.
+fn named(last: Commit, owner: u32) -> Commit
+    ensures { λ r. ⌜ r ≡ namedFor owner last ⌝ }
 {
-    let mut bytes = [0u8; 1568];
+    Commit {
+        place: last.place,
+        exclude: last.exclude,
+        readings: last.readings,
+        outputs: last.outputs,
+        owner,
+    }
+}
+
+// The save of a chip with these values and this last commit, in the owner's name, no bytes where its whole
+// checkpoints end at 0.
+fn save_of(owner: u32, end: usize, values: &[u32; 256], last: Commit) -> Save
+    ensures { λ r. ⌜ (take (r .size) (r .bytes) ≡ foldedBytes owner end (now (values .entry)) last) × (r .size ≤ length (r .bytes)) × (length (r .bytes) ≡ 1584) ⌝ }
+{
+    let mut bytes = [0u8; 1584];
     if end == 0 {
         return Save { bytes, size: 0 };
     }
-    let size = image_into(&mut bytes, held(values), values, last, 256, BYTE);
+    let size = image_into(
+        &mut bytes,
+        held(values),
+        values,
+        named(last, owner),
+        256,
+        BYTE,
+        kind_of(owner),
+    );
     Save { bytes, size }
 }
 
 // Whether the first n bytes of the save and of the chip are the same.
-fn same_start(save: &[u8; 1568], new: &[u8], n: usize) -> bool
-    requires { ⌜ (n ≤ length (now save)) × (length (now save) ≡ 1568) × (n ≤ length (now new)) ⌝ }
+fn same_start(save: &[u8; 1584], new: &[u8], n: usize) -> bool
+    requires { ⌜ (n ≤ length (now save)) × (length (now save) ≡ 1584) × (n ≤ length (now new)) ⌝ }
     ensures { λ r. ⌜ Decides (take n (now (new .entry)) ≡ take n (now (save .entry))) r ⌝ }
 {
     let mut i: usize = 0;
@@ -116,8 +144,8 @@ fn is_blank(l: &[u8], from: usize) -> bool
 }
 
 // Whether the new chip has that many bytes of the save and then FF.
-fn begun(save: &[u8; 1568], size: usize, new: &[u8], stored: usize) -> bool
-    requires { ⌜ (size ≤ length (now save)) × (length (now save) ≡ 1568) ⌝ }
+fn begun(save: &[u8; 1584], size: usize, new: &[u8], stored: usize) -> bool
+    requires { ⌜ (size ≤ length (now save)) × (length (now save) ≡ 1584) ⌝ }
     ensures { λ r. ⌜ Decides (Begun (take size (now (save .entry))) stored (now (new .entry))) r ⌝ }
 {
     if size < stored {
@@ -133,8 +161,8 @@ fn begun(save: &[u8; 1568], size: usize, new: &[u8], stored: usize) -> bool
 }
 
 // Stores the next bytes of the save upward until budget or save is spent; gives how many stand there now.
-fn store(save: &[u8; 1568], size: usize, new: &mut [u8], stored: usize, budget: usize) -> usize
-    requires { ⌜ (size ≤ length (now save)) × (length (now save) ≡ 1568) × (size ≤ length (now new)) ⌝ }
+fn store(save: &[u8; 1584], size: usize, new: &mut [u8], stored: usize, budget: usize) -> usize
+    requires { ⌜ (size ≤ length (now save)) × (length (now save) ≡ 1584) × (size ≤ length (now new)) ⌝ }
     ensures { λ r. ⌜ progress (now (new .exit)) r ≡ foldSteps (take size (now (save .entry))) budget (progress (now (new .entry)) stored) ⌝ }
 {
     let mut k = stored;
@@ -152,6 +180,7 @@ fn store(save: &[u8; 1568], size: usize, new: &mut [u8], stored: usize, budget: 
 
 // The save of what was read goes onto the new chip, unless that holds something else or is too short.
 fn fold_found(
+    owner: u32,
     end: usize,
     values: &[u32; 256],
     last: Commit,
@@ -159,9 +188,9 @@ fn fold_found(
     stored: usize,
     budget: usize,
 ) -> Folded
-    ensures { λ r. ⌜ Puts (foldedBytes end (now (values .entry)) last) (now (new .entry)) stored budget (outcome r (now (new .exit))) ⌝ }
+    ensures { λ r. ⌜ Puts (foldedBytes owner end (now (values .entry)) last) (now (new .entry)) stored budget (outcome r (now (new .exit))) ⌝ }
 {
-    let save = save_of(end, values, last);
+    let save = save_of(owner, end, values, last);
     let size = save.size;
     let bytes = save.bytes;
     if !begun(&bytes, size, new, stored) {
@@ -174,6 +203,34 @@ fn fold_found(
     Folded::Stored {
         stored: after,
         finished: after == size,
+    }
+}
+
+// An old chip that is damaged as one of the plan's is read with MARKs that name none.
+fn fold_older(
+    owner: u32,
+    old: &[u8],
+    highest: u8,
+    table: &[u8; 2048],
+    new: &mut [u8],
+    stored: usize,
+    budget: usize,
+) -> Folded
+    requires { ⌜ chipLength 1 (length (now old)) ≡ true ⌝ }
+    ensures { λ r. ⌜ FoldsOlder (factsIn (formatFor 1 unowned) (highest + 1) (now (table .entry))) owner (now (old .entry)) (now (new .entry)) stored budget (outcome r (now (new .exit))) ⌝ }
+{
+    let contents = scan(old, highest, table, BYTE, UNOWNED);
+    let answer = contents.answer;
+    let values = contents.values;
+    match answer {
+        Scanned::BadLength => Folded::Refused(12),
+        Scanned::Damaged => Folded::Refused(12),
+        Scanned::Found {
+            end,
+            torn: _,
+            last,
+            own: _,
+        } => fold_found(owner, end, &values, last, new, stored, budget),
     }
 }
 
@@ -196,14 +253,24 @@ fn fold_legal(
     if !is_length(new.len(), BYTE) {
         return Folded::Refused(11);
     }
-    let contents = scan(old, byte_at(program, 0), table, BYTE);
+    let owner = owner_of(program);
+    let highest = byte_at(program, 0);
+    let contents = scan(old, highest, table, BYTE, owner);
     let answer = contents.answer;
     let values = contents.values;
     match answer {
         Scanned::BadLength => Folded::Refused(11),
-        Scanned::Damaged => Folded::Refused(12),
-        Scanned::Found { end, torn: _, last } => {
-            fold_found(end, &values, last, new, stored, budget)
+        Scanned::Damaged => fold_older(owner, old, highest, table, new, stored, budget),
+        Scanned::Found {
+            end,
+            torn: _,
+            last,
+            own,
+        } => {
+            if !own {
+                return Folded::Refused(16);
+            }
+            fold_found(owner, end, &values, last, new, stored, budget)
         }
     }
 }

@@ -73,7 +73,7 @@ pub record Reads (F : Facts) (chip : List ℕ) (js : List Checkpoint) (q : List 
   pub reading : Reading F chip js left
 
 -- nothing, or a part, and FF bytes begin with no whole checkpoint
-cut-not-whole : {F : Facts} {b : Commit} (q : List ℕ) (m : ℕ) → Cut F b q → ¬ Whole F b (q ++ replicate m 0xFF)
+cut-not-whole : {F : Facts} {b : Commit} → (q : List ℕ) (m : ℕ) → Cut F b q → ¬ Whole F b (q ++ replicate m 0xFF)
 cut-not-whole {F} {b} q m c =
     ⊎-elim (λ e. subst (λ (x : List ℕ). ¬ Whole F b (x ++ replicate m 0xFF)) (sym e) (erased-not-whole m)) (λ p. never-whole q m p) c
 

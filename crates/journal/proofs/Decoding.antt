@@ -10,7 +10,7 @@ use lib.Seq.{take-at, drop-at}
 use Rattle.word.specs.Bytes.{bytesOf, numberOf}
 use Rattle.word.proofs.Bytes.{length-bytes, number-bytes}
 use Rattle.journal.specs.declared.Commit.{Commit}
-use Rattle.journal.specs.Format.{Saved, Field, Checkpoint, fieldsOf, fieldsImage, commitImage, recordsImage, image, fillOf, filledOf, Format, padded, images}
+use Rattle.journal.specs.Format.{markLead, Saved, Field, Checkpoint, fieldsOf, fieldsImage, commitImage, recordsImage, image, fillOf, filledOf, Format, padded, images}
 use Rattle.journal.specs.Reading.{Facts, Once, After, Sound, Rising, lastOf, Whole}
 use Rattle.journal.proofs.Images.{records-append, noField}
 use Rattle.journal.proofs.Paging as pages
@@ -50,55 +50,60 @@ fields-same end s t (one {n} {v} {w} {fs} {gs} h k a) e =
 
 -- ---- a commit
 
-commit-alike : {F F′ : Facts} {b b′ c c′ : Commit} → After F b c → After F′ b′ c′ → Alike (fieldsOf c) (fieldsOf c′)
+commit-alike : {F : Facts} {b b′ c c′ : Commit} → After F b c → After F b′ c′ → Alike (fieldsOf (F .format) c) (fieldsOf (F .format) c′)
 commit-alike h k =
     one (h .place-fits) (k .place-fits)
-    (one (h .exclude-fits) (k .exclude-fits) (one (h .readings-fit) (k .readings-fit) (one (h .outputs-fit) (k .outputs-fit) none)))
+    (one (h .exclude-fits) (k .exclude-fits) (one (h .readings-fit) (k .readings-fit) (one (h .outputs-fit) (k .outputs-fit)
+    (one (h .owner-fits) (k .owner-fits) none))))
 
-commit-eq : {c c′ : Commit} → fieldsOf c ≡ fieldsOf c′ → c ≡ c′
-commit-eq {c} {c′} e =
+commit-eq : (G : Format) {c c′ : Commit} → fieldsOf G c ≡ fieldsOf G c′ → c ≡ c′
+commit-eq G {c} {c′} e =
     let place : c .place ≡ c′ .place = number-at 0 in
     let exclude : c .exclude ≡ c′ .exclude = number-at 1 in
     let readings : c .readings ≡ c′ .readings = number-at 2 in
     let outputs : c .outputs ≡ c′ .outputs = number-at 3 in
-    λ i. record { place = place i; exclude = exclude i; readings = readings i; outputs = outputs i }
+    let owner : c .owner ≡ c′ .owner = number-at 4 in
+    λ i. record { place = place i; exclude = exclude i; readings = readings i; outputs = outputs i; owner = owner i }
   where
-    number-at : (k : ℕ) → getD (fieldsOf c) k noField .number ≡ getD (fieldsOf c′) k noField .number
+    number-at : (k : ℕ) → getD (fieldsOf G c) k noField .number ≡ getD (fieldsOf G c′) k noField .number
     number-at k = ap (λ (fs : List Field). getD fs k noField .number) e
 
 -- ---- a checkpoint
 
--- records before an A2 begin with the records that their bytes begin with
-pub peel : {n n′ : ℕ} {rs rs′ : List Saved} (m t : List ℕ) → Once n rs → Once n′ rs′ → recordsImage rs′ (0xA2 ∷ t) ≡ recordsImage rs m
-    → (more : List Saved) × (rs′ ≡ rs ++ more) × (recordsImage more (0xA2 ∷ t) ≡ m)
+-- records before another byte than A1 begin with the records that their bytes begin with
+pub peel : {n n′ : ℕ} {rs rs′ : List Saved} (x : ℕ) (m t : List ℕ) → Once n rs → Once n′ rs′ → recordsImage rs′ ((0xA2 + x) ∷ t) ≡ recordsImage rs m
+    → (more : List Saved) × (rs′ ≡ rs ++ more) × (recordsImage more ((0xA2 + x) ∷ t) ≡ m)
 unfolding recordsImage
-peel {rs′ = rs′} m t Once.none k e = (rs′, refl, e)
-peel m t (Once.one i j a o) Once.none e = absurd (let z : _≡_ {A = ℕ} 0xA2 0xA1 = head-eq-of-cons-eq e in omega arith)
-peel m t (Once.one {r} {rs} i j a o) (Once.one {r = r′} {rs = rs′} i′ j′ a′ o′) e =
+peel {rs′ = rs′} x m t Once.none k e = (rs′, refl, e)
+peel x m t (Once.one i j a o) Once.none e = absurd (let z : 0xA2 + x ≡ 0xA1 = head-eq-of-cons-eq e in omega arith)
+peel x m t (Once.one {r} {rs} i j a o) (Once.one {r = r′} {rs = rs′} i′ j′ a′ o′) e =
     let f = tail-eq-of-cons-eq e in
-    let d = number-same 4 (r′ .value) (r .value) (recordsImage rs′ (0xA2 ∷ t)) (recordsImage rs m) j′ j (tail-eq-of-cons-eq f) in
-    let u = peel m t o o′ (d .1) in
+    let d = number-same 4 (r′ .value) (r .value) (recordsImage rs′ ((0xA2 + x) ∷ t)) (recordsImage rs m) j′ j (tail-eq-of-cons-eq f) in
+    let u = peel x m t o o′ (d .1) in
     let cell : r′ .cell ≡ r .cell = head-eq-of-cons-eq f in
     let value : r′ .value ≡ r .value = d .0 in
     let all : rs′ ≡ rs ++ u .0 = u .1 in
     (u .0, (λ i. record { cell = cell i; value = value i } ∷ all i), u .2)
 
 -- and a commit behind them is the same
-records-same : {F F′ : Facts} {n n′ : ℕ} {b b′ c c′ : Commit} {rs rs′ : List Saved} (s t : List ℕ) → Once n rs → Once n′ rs′ → After F b c → After F′ b′ c′
-    → recordsImage rs (commitImage c) ++ s ≡ recordsImage rs′ (commitImage c′) ++ t → (rs ≡ rs′) × (c ≡ c′) × (s ≡ t)
+records-same : {F : Facts} {n n′ : ℕ} {b b′ c c′ : Commit} {rs rs′ : List Saved} (s t : List ℕ) → Once n rs → Once n′ rs′
+    → After F b c → After F b′ c′ → recordsImage rs (commitImage (F .format) c) ++ s ≡ recordsImage rs′ (commitImage (F .format) c′) ++ t
+    → (rs ≡ rs′) × (c ≡ c′) × (s ≡ t)
 unfolding recordsImage
-records-same {c = c} {c′ = c′} {rs = rs} {rs′ = rs′} s t o o′ h k e =
-    let p = peel (commitImage c ++ s) _ o o′ (sym (records-append rs′ (commitImage c′) t) ∙ sym e ∙ records-append rs (commitImage c) s) in
+records-same {F} {c = c} {c′ = c′} {rs = rs} {rs′ = rs′} s t o o′ h k e =
+    let G = F .format in
+    let p = peel (G .kind) (commitImage G c ++ s) _ o o′ (sym (records-append rs′ (commitImage G c′) t) ∙ sym e ∙ records-append rs (commitImage G c) s) in
     go (p .0) (p .1) (p .2)
   where
-    go : (more : List Saved) → rs′ ≡ rs ++ more → recordsImage more (commitImage c′ ++ t) ≡ commitImage c ++ s → (rs ≡ rs′) × (c ≡ c′) × (s ≡ t)
+    go : (more : List Saved) → rs′ ≡ rs ++ more → recordsImage more (commitImage (F .format) c′ ++ t) ≡ commitImage (F .format) c ++ s → (rs ≡ rs′) × (c ≡ c′) × (s ≡ t)
     go [] a f =
         let d = fields-same 0x5A s t (commit-alike h k) (sym (tail-eq-of-cons-eq f)) in
-        (sym (a ∙ append-nil rs), commit-eq (d .0), d .1)
-    go (r ∷ more) a f = absurd (let z : _≡_ {A = ℕ} 0xA1 0xA2 = head-eq-of-cons-eq f in omega arith)
+        (sym (a ∙ append-nil rs), commit-eq (F .format) (d .0), d .1)
+    go (r ∷ more) a f = absurd (let z : 0xA1 ≡ 0xA2 + F .format .kind = head-eq-of-cons-eq f in omega arith)
 
 -- bytes that begin with the image of a sound checkpoint decode to it and to nothing else
-pub unique : {F F′ : Facts} {b b′ : Commit} (x y : Checkpoint) (s t : List ℕ) → Sound F b x → Sound F′ b′ y → image x ++ s ≡ image y ++ t → (x ≡ y) × (s ≡ t)
+pub unique : {F : Facts} {b b′ : Commit} → (x y : Checkpoint) (s t : List ℕ) → Sound F b x → Sound F b′ y
+    → image (F .format) x ++ s ≡ image (F .format) y ++ t → (x ≡ y) × (s ≡ t)
 unfolding image
 unique x y s t h k e =
     let d = records-same s t (h .once) (k .once) (h .after) (k .after) e in
@@ -107,12 +112,13 @@ unique x y s t h k e =
     ((λ i. record { records = records i; commit = commit i }), d .2)
 
 -- and so do bytes that begin with what is stored of it
-pub unique-stored : {F F′ : Facts} {b b′ : Commit} (G : Format) (x y : Checkpoint) (s t : List ℕ) → Sound F b x → Sound F′ b′ y
-    → padded G x ++ s ≡ padded G y ++ t → (x ≡ y) × (s ≡ t)
+pub unique-stored : {F : Facts} {b b′ : Commit} → (x y : Checkpoint) (s t : List ℕ) → Sound F b x → Sound F b′ y
+    → padded (F .format) x ++ s ≡ padded (F .format) y ++ t → (x ≡ y) × (s ≡ t)
 unfolding padded
-unique-stored G x y s t h k e =
-    let fill : Checkpoint → List ℕ = λ z. replicate (fillOf (G .page) (length (image z))) 0xFF in
-    let u = unique x y (fill x ++ s) (fill y ++ t) h k (sym (append-assoc (image x) (fill x) s) ∙ e ∙ append-assoc (image y) (fill y) t) in
+unique-stored {F} x y s t h k e =
+    let G = F .format in
+    let fill : Checkpoint → List ℕ = λ z. replicate (fillOf (G .page) (length (image G z))) 0xFF in
+    let u = unique x y (fill x ++ s) (fill y ++ t) h k (sym (append-assoc (image G x) (fill x) s) ∙ e ∙ append-assoc (image G y) (fill y) t) in
     (u .0, append-cancel-left (fill x) s t (u .1 ∙ ap (λ (z : Checkpoint). fill z ++ t) (sym (u .0))))
 
 -- ---- checkpoints one after the other
@@ -122,7 +128,7 @@ front-whole : {F : Facts} {b : Commit} (x : Checkpoint) (l s t : List ℕ) → S
 front-whole {F} x l s t h e = record { save = x; sound = h; rest = l ++ t; bytes = e ∙ append-assoc (padded (F .format) x) l t }
 
 -- bytes hold one list of sound checkpoints after which no whole one comes
-pub same-saves : {F : Facts} {b : Commit} {js js′ : List Checkpoint} (s t : List ℕ) → Rising F b js → Rising F b js′
+pub same-saves : {F : Facts} {b : Commit} {js js′ : List Checkpoint} → (s t : List ℕ) → Rising F b js → Rising F b js′
     → images (F .format) js ++ s ≡ images (F .format) js′ ++ t
     → ¬ Whole F (lastOf b js) s → ¬ Whole F (lastOf b js′) t → (js ≡ js′) × (s ≡ t)
 unfolding images lastOf
@@ -135,7 +141,7 @@ same-saves {F} s t (Rising.one {s = x} {js = js} h r) (Rising.one {s = y} {js = 
     let G = F .format in
     let i = images G js in
     let j = images G js′ in
-    let u = unique-stored G x y (i ++ s) (j ++ t) h k (sym (append-assoc (padded G x) i s) ∙ e ∙ append-assoc (padded G y) j t) in
+    let u = unique-stored x y (i ++ s) (j ++ t) h k (sym (append-assoc (padded G x) i s) ∙ e ∙ append-assoc (padded G y) j t) in
     let rise : Rising F (x .commit) js′ = rw (u .0) r′ in
     let v = same-saves s t r rise (u .1) m (rw (u .0) n) in
     (ap₂ {A = Checkpoint} (λ j l. j ∷ l) (u .0) (v .0), v .1)
@@ -161,25 +167,25 @@ records-end [] e = e
 records-end (r ∷ rs) e = ends-append (0xA1 ∷ r .cell ∷ bytesOf 4 (r .value)) (records-end rs e)
 
 -- an image ends in 5A
-pub image-end : (s : Checkpoint) → EndsIn 0x5A (image s)
+pub image-end : (G : Format) (s : Checkpoint) → EndsIn 0x5A (image G s)
 unfolding image
-image-end s = records-end (s .records) (ends-append (0xA2 ∷ []) (fields-end (fieldsOf (s .commit)) 0x5A))
+image-end G s = records-end (s .records) (ends-append (markLead G ∷ []) (fields-end (fieldsOf G (s .commit)) 0x5A))
 
 -- so it is not empty
-pub image-some : (s : Checkpoint) → 0 < length (image s)
-image-some s = let e = image-end s in omega (arith, ap length (e .bytes), length-append (e .front) (0x5A ∷ []))
+pub image-some : (G : Format) (s : Checkpoint) → 0 < length (image G s)
+image-some G s = let e = image-end G s in omega (arith, ap length (e .bytes), length-append (e .front) (0x5A ∷ []))
 
 -- ---- whole pages
 
-pub padded-length : (G : Format) (s : Checkpoint) → length (padded G s) ≡ filledOf (G .page) (length (image s))
+pub padded-length : (G : Format) (s : Checkpoint) → length (padded G s) ≡ filledOf (G .page) (length (image G s))
 unfolding padded
 padded-length G s =
-    let n = fillOf (G .page) (length (image s)) in
+    let n = fillOf (G .page) (length (image G s)) in
     let f : length (replicate {A = ℕ} n 0xFF) ≡ n = length-replicate n 0xFF in
-    omega (arith, length-append (image s) (replicate n 0xFF))
+    omega (arith, length-append (image G s) (replicate n 0xFF))
 
 pub padded-whole : (G : Format) → 0 < G .page → (s : Checkpoint) → pages.Whole (G .page) (length (padded G s))
-padded-whole G h s = rw (padded-length G s) (fill-whole (G .page) (length (image s)) h)
+padded-whole G h s = rw (padded-length G s) (fill-whole (G .page) (length (image G s)) h)
 
 pub images-whole : (G : Format) → 0 < G .page → (js : List Checkpoint) → pages.Whole (G .page) (length (images G js))
 unfolding images

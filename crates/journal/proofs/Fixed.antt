@@ -23,7 +23,7 @@ use Rattle.journal.specs.declared.Commit.{Commit}
 use Rattle.journal.specs.declared.Scanned.{Scanned}
 use Rattle.journal.specs.declared.Scanned.the-variants as scanned
 use Rattle.journal.specs.Format.{Format, Checkpoint, filledOf, chipLength, images}
-use Rattle.journal.specs.Reading.{Facts, factsOf, first, lastOf, Torn, Damaged, savedValue}
+use Rattle.journal.specs.Reading.{Facts, factsOf, first, lastOf, Torn, Damaged, ownAll, savedValue}
 use Rattle.journal.specs.Answer.{factsIn, Taken, Blank, Scans, answerOf, Ground, size, damaged, Read, reads, ScanIs}
 use Rattle.journal.proofs.Paging.{Whole, whole-none, whole-sub, fill-none, fill-whole, fill-least}
 use Rattle.journal.proofs.Decoding.{images-whole}
@@ -49,7 +49,7 @@ facts-same G p table h = λ i. record { format = G; cells = cellsOf p; place = �
 -- ---- one answer
 
 -- a damaged chip has no reading that is accepted
-pub apart : {F : Facts} {chip : List ℕ} {end torn : ℕ} {last : Commit} {values : List ℕ} → Damaged F chip → ¬ Taken F chip end torn last values
+pub apart : {F : Facts} {chip : List ℕ} {end torn : ℕ} {last : Commit} {own : Bool} {values : List ℕ} → Damaged F chip → ¬ Taken F chip end torn last own values
 apart {F} d t =
     let o = one-reading (t .reading) (d .reading) in
     let g = subst (λ (js : List Checkpoint). Torn F (lastOf first js) (t .rest)) (o .0) (t .accepted) in
@@ -60,13 +60,14 @@ blank-same : {v v′ : List ℕ} → Blank v → Blank v′ → v ≡ v′
 blank-same {v} {v′} b b′ = ext-getD 0 v v′ (b .cells ∙ sym (b′ .cells)) (λ c _. b .values-are c ∙ sym (b′ .values-are c))
 
 -- what an accepted reading gives is fixed
-pub taken-fixed : {F : Facts} {chip : List ℕ} {end torn end′ torn′ : ℕ} {last last′ : Commit} {v v′ : List ℕ} → Taken F chip end torn last v → Taken F chip end′ torn′ last′ v′
-    → (end ≡ end′) × (torn ≡ torn′) × (last ≡ last′) × (v ≡ v′)
+pub taken-fixed : {F : Facts} {chip : List ℕ} {end torn end′ torn′ : ℕ} {last last′ : Commit} {own own′ : Bool} {v v′ : List ℕ} → Taken F chip end torn last own v
+    → Taken F chip end′ torn′ last′ own′ v′ → (end ≡ end′) × (torn ≡ torn′) × (last ≡ last′) × (own ≡ own′) × (v ≡ v′)
 taken-fixed {F} {v = v} {v′ = v′} x y =
     let o = one-reading (x .reading) (y .reading) in (
       x .end-is ∙ ap (λ (js : List Checkpoint). length (images (F .format) js)) (o .0) ∙ sym (y .end-is),
       x .torn-is ∙ ap (λ (q : List ℕ). filledOf (F .format .page) (length q)) (o .1) ∙ sym (y .torn-is),
       x .last-is ∙ ap (lastOf first) (o .0) ∙ sym (y .last-is),
+      x .own-is ∙ ap (ownAll (F .format .owner)) (o .0) ∙ sym (y .own-is),
       ext-getD 0 v v′ (x .cells ∙ sym (y .cells)) λ c h.
           let k : c < 256 = omega (arith, h, x .cells) in
           x .values-are c k ∙ ap (λ (js : List Checkpoint). savedValue c js 0) (o .0) ∙ sym (y .values-are c k),
@@ -76,29 +77,29 @@ taken-fixed {F} {v = v} {v′ = v′} x y =
 pub scan-fixed : (F : Facts) (chip : List ℕ) (a a′ : Scanned) (v v′ : List ℕ) → Scans F chip a v → Scans F chip a′ v′ → (a ≡ a′) × (v ≡ v′)
 scan-fixed F chip scanned.BadLength scanned.BadLength v v′ x y = (refl, blank-same (x .1) (y .1))
 scan-fixed F chip scanned.BadLength scanned.Damaged v v′ x y = clash _ (y .0) (x .0)
-scan-fixed F chip scanned.BadLength (scanned.Found end torn last) v v′ x y = clash _ (y .0) (x .0)
+scan-fixed F chip scanned.BadLength (scanned.Found end torn last own) v v′ x y = clash _ (y .0) (x .0)
 scan-fixed F chip scanned.Damaged scanned.BadLength v v′ x y = clash _ (x .0) (y .0)
 scan-fixed F chip scanned.Damaged scanned.Damaged v v′ x y = (refl, blank-same (x .2) (y .2))
-scan-fixed F chip scanned.Damaged (scanned.Found end torn last) v v′ x y = absurd (apart (x .1) (y .1))
-scan-fixed F chip (scanned.Found end torn last) scanned.BadLength v v′ x y = clash _ (x .0) (y .0)
-scan-fixed F chip (scanned.Found end torn last) scanned.Damaged v v′ x y = absurd (apart (y .1) (x .1))
-scan-fixed F chip (scanned.Found end torn last) (scanned.Found end′ torn′ last′) v v′ (_, x) (_, y) =
+scan-fixed F chip scanned.Damaged (scanned.Found end torn last own) v v′ x y = absurd (apart (x .1) (y .1))
+scan-fixed F chip (scanned.Found end torn last own) scanned.BadLength v v′ x y = clash _ (x .0) (y .0)
+scan-fixed F chip (scanned.Found end torn last own) scanned.Damaged v v′ x y = absurd (apart (y .1) (x .1))
+scan-fixed F chip (scanned.Found end torn last own) (scanned.Found end′ torn′ last′ own′) v v′ (_, x) (_, y) =
     let f = taken-fixed x y in
-    ((λ i. scanned.Found (f .0 i) (f .1 i) (f .2 i)), f .3)
+    ((λ i. scanned.Found (f .0 i) (f .1 i) (f .2 i) (f .3 i)), f .4)
 
 -- a chip of a length that no chip has is answered so, damaged or not; that no other is, is `Scans` itself
 pub length-found : (F : Facts) (chip : List ℕ) (a : Scanned) (v : List ℕ) → chipLength (F .format .page) (length chip) ≡ false → Scans F chip a v
     → a ≡ scanned.BadLength
 length-found F chip scanned.BadLength v l x = refl
 length-found F chip scanned.Damaged v l x = clash _ (x .0) l
-length-found F chip (scanned.Found end torn last) v l x = clash _ (x .0) l
+length-found F chip (scanned.Found end torn last own) v l x = clash _ (x .0) l
 
 -- likewise another that is damaged
 pub damaged-found : {F : Facts} {chip : List ℕ} (a : Scanned) (v : List ℕ) → chipLength (F .format .page) (length chip) ≡ true → Damaged F chip → Scans F chip a v
     → a ≡ scanned.Damaged
 damaged-found scanned.BadLength v m d x = clash _ m (x .0)
 damaged-found scanned.Damaged v m d x = refl
-damaged-found (scanned.Found end torn last) v m d x = absurd (apart d (x .1))
+damaged-found (scanned.Found end torn last own) v m d x = absurd (apart d (x .1))
 
 -- ---- the answer in 01's terms
 
@@ -112,7 +113,7 @@ below-12 n m l (size h) = clash _ n h
 below-12 n m l (damaged d) = omega arith
 
 -- an accepted chip has none
-unground : {F : Facts} {chip : List ℕ} {end torn : ℕ} {last : Commit} {values : List ℕ} → chipLength (F .format .page) (length chip) ≡ true → Taken F chip end torn last values
+unground : {F : Facts} {chip : List ℕ} {end torn : ℕ} {last : Commit} {own : Bool} {values : List ℕ} → chipLength (F .format .page) (length chip) ≡ true → Taken F chip end torn last own values
     → (m : ℕ) → ¬ Ground F chip m
 unground n t m (size h) = clash _ n h
 unground n t m (damaged d) = apart d t
@@ -121,9 +122,9 @@ unground n t m (damaged d) = apart d t
 pub scan-ruled : (F : Facts) (chip : List ℕ) (a : Scanned) (v : List ℕ) → Scans F chip a v → Allowed (Ground F chip) (Read F chip) (answerOf a)
 scan-ruled F chip scanned.BadLength v x = denied (size (x .0)) below-11
 scan-ruled F chip scanned.Damaged v x = denied (damaged (x .1)) (below-12 (x .0))
-scan-ruled F chip (scanned.Found end torn last) v (n, x) =
-    let vs : Read F chip (end ∷ torn ∷ last .place ∷ last .exclude ∷ last .readings ∷ last .outputs ∷ []) =
-    rw (x .end-is, x .torn-is, x .last-is) (reads (x .saves) (x .rest) (x .reading) (x .accepted)) in
+scan-ruled F chip (scanned.Found end torn last own) v (n, x) =
+    let vs : Read F chip (end ∷ torn ∷ last .place ∷ last .exclude ∷ last .readings ∷ last .outputs ∷ last .owner ∷ cond own 1 0 ∷ []) =
+    rw (x .end-is, x .torn-is, x .last-is, x .own-is) (reads (x .saves) (x .rest) (x .reading) (x .accepted)) in
     granted (unground n x) vs
 
 -- so this is what scan promises
@@ -131,7 +132,7 @@ pub scan-is : (F : Facts) (chip : List ℕ) (a : Scanned) (v : List ℕ) → Sca
 scan-is F chip a v x = record { scans = x; ruled = scan-ruled F chip a v x }
 
 -- the whole saves end with a page, the torn bytes are whole pages, and both are part of a chip of whole pages
-module _ {F : Facts} {chip : List ℕ} {end torn : ℕ} {last : Commit} {values : List ℕ} (pos : 0 < F .format .page) (t : Taken F chip end torn last values) where
+module _ {F : Facts} {chip : List ℕ} {end torn : ℕ} {last : Commit} {own : Bool} {values : List ℕ} (pos : 0 < F .format .page) (t : Taken F chip end torn last own values) where
   pub end-whole : Whole (F .format .page) end
   end-whole = rw (t .end-is) (images-whole (F .format) pos (t .saves))
 
@@ -154,20 +155,21 @@ module _ {F : Facts} {chip : List ℕ} {end torn : ℕ} {last : Commit} {values 
 -- whole checkpoints, then nothing or a part of one, then FF are answered with those checkpoints, and with no more torn bytes than there are
 pub shape-found : {F : Facts} {chip : List ℕ} {js : List Checkpoint} {q : List ℕ} (a : Scanned) (v : List ℕ)
     → chipLength (F .format .page) (length chip) ≡ true → Shape F chip js q → Scans F chip a v
-    → (k : ℕ) × (k ≤ length q) × (a ≡ scanned.Found (length (images (F .format) js)) (filledOf (F .format .page) k) (lastOf first js))
+    → (k : ℕ) × (k ≤ length q) × (a ≡ scanned.Found (length (images (F .format) js)) (filledOf (F .format .page) k) (lastOf first js) (ownAll (F .format .owner) js))
     × ((c : ℕ) → c < 256 → getD v c 0 ≡ savedValue c js 0)
 shape-found scanned.BadLength v m s x = clash _ m (x .0)
 shape-found scanned.Damaged v m s x = absurd (not-damaged s (x .1))
-shape-found {F} {js = js} (scanned.Found end torn last) v m s (_, x) =
+shape-found {F} {js = js} (scanned.Found end torn last own) v m s (_, x) =
     let r = shape-reads s in
     let o = one-reading (x .reading) (r .reading) in
     let e : end ≡ length (images (F .format) js) = x .end-is ∙ ap (λ (l : List Checkpoint). length (images (F .format) l)) (o .0) in
     let t : torn ≡ filledOf (F .format .page) (length (x .rest)) = x .torn-is in
     let l : last ≡ lastOf first js = x .last-is ∙ ap (lastOf first) (o .0) in
+    let w : own ≡ ownAll (F .format .owner) js = x .own-is ∙ ap (ownAll (F .format .owner)) (o .0) in
     let n = length-append (r .left) (replicate (r .cut) 0xFF) in (
       length (x .rest),
       omega (arith, ap length (o .1), ap length (r .bytes), n),
-      (λ i. scanned.Found (e i) (t i) (l i)),
+      (λ i. scanned.Found (e i) (t i) (l i) (w i)),
       (λ c h. x .values-are c h ∙ ap (λ (l : List Checkpoint). savedValue c l 0) (o .0)),
     )
 
@@ -175,17 +177,17 @@ shape-found {F} {js = js} (scanned.Found end torn last) v m s (_, x) =
 value-count : (F : Facts) (chip : List ℕ) (a : Scanned) (v : List ℕ) → Scans F chip a v → length v ≡ 256
 value-count F chip scanned.BadLength v x = x .1 .cells
 value-count F chip scanned.Damaged v x = x .2 .cells
-value-count F chip (scanned.Found end torn last) v x = x .1 .cells
+value-count F chip (scanned.Found end torn last own) v x = x .1 .cells
 
 -- an erased chip has no checkpoint
-pub erased-found : (F : Facts) (n : ℕ) (a : Scanned) (v : List ℕ) → chipLength (F .format .page) n ≡ true → Scans F (replicate n 0xFF) a v → (a ≡ scanned.Found 0 0 first) × Blank v
-unfolding images lastOf savedValue
+pub erased-found : (F : Facts) (n : ℕ) (a : Scanned) (v : List ℕ) → chipLength (F .format .page) n ≡ true → Scans F (replicate n 0xFF) a v → (a ≡ scanned.Found 0 0 first true) × Blank v
+unfolding images lastOf savedValue ownAll
 erased-found F n a v m x =
     let f = shape-found a v (ap (chipLength (F .format .page)) (length-replicate {A = ℕ} n 0xFF) ∙ m) (erased-shape n) x in
     let z : f .0 ≡ 0 = omega (arith, f .1) in
     let none : filledOf (F .format .page) (f .0) ≡ 0 =
     ap (filledOf (F .format .page)) z ∙ omega (arith, fill-none (F .format .page) 0 (whole-none (F .format .page))) in
     let count = value-count F (replicate n 0xFF) a v x in (
-      f .2 ∙ ap (λ (k : ℕ). scanned.Found 0 k first) none,
+      f .2 ∙ ap (λ (k : ℕ). scanned.Found 0 k first true) none,
       record { cells = count; values-are = λ c. ⊎-elim (λ (h : 256 ≤ c). List·getD-eq-default v 0 (omega arith)) (f .3 c) (le-or-lt 256 c) },
     )

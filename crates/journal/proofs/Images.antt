@@ -11,7 +11,7 @@ use Rattle.word.specs.Bytes.{byteOf, bytesOf}
 use Rattle.word.proofs.Bytes.{length-bytes, bytes-at}
 use Rattle.cellset.proofs.Bits.{le-or-lt}
 use Rattle.journal.specs.declared.Commit.{Commit}
-use Rattle.journal.specs.Format.{Saved, Field, recordImage, fieldsOf, fieldsImage, commitImage, recordsImage}
+use Rattle.journal.specs.Format.{Format, ownerWidth, markLead, markLength, Saved, Field, recordImage, fieldsOf, fieldsImage, commitImage, recordsImage}
 
 -- ---- two lists, one after the other
 
@@ -82,44 +82,54 @@ unfolding fieldsImage widths
 fields-last [] end = refl
 fields-last (f ∷ fs) end = field-past f fs end (f .width + widths fs) (widths fs) refl ∙ fields-last fs end
 
-pub commit-length : (c : Commit) → length (commitImage c) ≡ 14
+pub commit-length : (G : Format) (c : Commit) → length (commitImage G c) ≡ markLength G
 unfolding widths
-commit-length c = ap suc (fields-length (fieldsOf c) 0x5A)
+commit-length G c = omega (arith, fields-length (fieldsOf G c) 0x5A)
 
 -- field i of a commit, whose first byte stands at n
-commit-field : (c : Commit) (i n k x : ℕ) → i < 4 → n ≡ suc (widths (take i (fieldsOf c))) → n ≤ k → k < n + getD (fieldsOf c) i noField .width
-    → x ≡ byteOf (getD (fieldsOf c) i noField .number) (k - n) → x ≡ getD (commitImage c) k 0
-commit-field c i n k x h w l m e =
+commit-field : (G : Format) (c : Commit) (i n k x : ℕ) → i < 5 → n ≡ suc (widths (take i (fieldsOf G c))) → n ≤ k
+    → k < n + getD (fieldsOf G c) i noField .width → x ≡ byteOf (getD (fieldsOf G c) i noField .number) (k - n) → x ≡ getD (commitImage G c) k 0
+commit-field G c i n k x h w l m e =
     let t : k ≡ suc (k - 1) = omega arith in
     e
-    ∙ sym (field-at (fieldsOf c) i 0x5A (k - 1) (k - n) h (omega arith) (omega arith))
-    ∙ ap (λ (y : ℕ). getD (commitImage c) y 0) (sym t)
+    ∙ sym (field-at (fieldsOf G c) i 0x5A (k - 1) (k - n) h (omega arith) (omega arith))
+    ∙ ap (λ (y : ℕ). getD (commitImage G c) y 0) (sym t)
 
--- the four of them
-module _ (c : Commit) (k x : ℕ) where
-  pub commit-place : ¬ (k ≡ 0) → k < 3 → x ≡ byteOf (c .place) (k - 1) → x ≡ getD (commitImage c) k 0
+-- the five of them
+module _ (G : Format) (c : Commit) (k x : ℕ) where
+  pub commit-place : ¬ (k ≡ 0) → k < 3 → x ≡ byteOf (c .place) (k - 1) → x ≡ getD (commitImage G c) k 0
   unfolding widths
-  commit-place l h e = commit-field c 0 1 k x (omega arith) refl (omega arith) h e
+  commit-place l h e = commit-field G c 0 1 k x (omega arith) refl (omega arith) h e
 
-  pub commit-exclude : 3 ≤ k → k < 5 → x ≡ byteOf (c .exclude) (k - 3) → x ≡ getD (commitImage c) k 0
+  pub commit-exclude : 3 ≤ k → k < 5 → x ≡ byteOf (c .exclude) (k - 3) → x ≡ getD (commitImage G c) k 0
   unfolding widths
-  commit-exclude l h e = commit-field c 1 3 k x (omega arith) refl l h e
+  commit-exclude l h e = commit-field G c 1 3 k x (omega arith) refl l h e
 
-  pub commit-readings : 5 ≤ k → k < 9 → x ≡ byteOf (c .readings) (k - 5) → x ≡ getD (commitImage c) k 0
+  pub commit-readings : 5 ≤ k → k < 9 → x ≡ byteOf (c .readings) (k - 5) → x ≡ getD (commitImage G c) k 0
   unfolding widths
-  commit-readings l h e = commit-field c 2 5 k x (omega arith) refl l h e
+  commit-readings l h e = commit-field G c 2 5 k x (omega arith) refl l h e
 
-  pub commit-outputs : 9 ≤ k → k < 13 → x ≡ byteOf (c .outputs) (k - 9) → x ≡ getD (commitImage c) k 0
+  pub commit-outputs : 9 ≤ k → k < 13 → x ≡ byteOf (c .outputs) (k - 9) → x ≡ getD (commitImage G c) k 0
   unfolding widths
-  commit-outputs l h e = commit-field c 3 9 k x (omega arith) refl l h e
+  commit-outputs l h e = commit-field G c 3 9 k x (omega arith) refl l h e
+
+  pub commit-owner : 13 ≤ k → k < 13 + ownerWidth G → x ≡ byteOf (c .owner) (k - 13) → x ≡ getD (commitImage G c) k 0
+  unfolding widths
+  commit-owner l h e = commit-field G c 4 13 k x (omega arith) refl l h e
+
+-- the first byte
+pub commit-lead : (G : Format) (c : Commit) (k : ℕ) → k ≡ 0 → markLead G ≡ getD (commitImage G c) k 0
+commit-lead G c k e = ap (λ (y : ℕ). getD (commitImage G c) y 0) (sym e)
 
 -- the last byte, and nothing behind it
-pub commit-last : (c : Commit) (k : ℕ) → k ≡ 13 → 0x5A ≡ getD (commitImage c) k 0
+pub commit-last : (G : Format) (c : Commit) (k : ℕ) → k ≡ 13 + ownerWidth G → 0x5A ≡ getD (commitImage G c) k 0
 unfolding widths
-commit-last c k e = sym (fields-last (fieldsOf c) 0x5A) ∙ ap (λ (y : ℕ). getD (commitImage c) y 0) (sym e)
+commit-last G c k e =
+    let z : k ≡ suc (widths (fieldsOf G c)) = omega arith in
+    sym (fields-last (fieldsOf G c) 0x5A) ∙ ap (λ (y : ℕ). getD (commitImage G c) y 0) (sym z)
 
-pub commit-past : (c : Commit) (k : ℕ) → 13 ≤ k → ¬ (k ≡ 13) → 0 ≡ getD (commitImage c) k 0
-commit-past c k l h = sym (List·getD-eq-default (commitImage c) 0 {n = k} (omega (arith, commit-length c)))
+pub commit-past : (G : Format) (c : Commit) (k : ℕ) → 13 + ownerWidth G ≤ k → ¬ (k ≡ 13 + ownerWidth G) → 0 ≡ getD (commitImage G c) k 0
+commit-past G c k l h = sym (List·getD-eq-default (commitImage G c) 0 {n = k} (omega (arith, commit-length G c)))
 
 -- ---- records
 

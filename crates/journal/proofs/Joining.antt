@@ -84,7 +84,7 @@ joined F scanned.Damaged values m c w = (
   record { saves = w .0 .saves; rest = w .0 .rest; reading = reading-of m c (w .0 .stops); refused = w .0 .refused },
   w .1,
 )
-joined F (scanned.Found end torn last) values m c w = (
+joined F (scanned.Found end torn last own) values m c w = (
   m,
   record {
     saves = w .saves;
@@ -94,6 +94,7 @@ joined F (scanned.Found end torn last) values m c w = (
     end-is = w .stops .at-is;
     torn-is = w .torn-is;
     last-is = w .last-is;
+    own-is = w .own-is;
     cells = w .cells;
     values-are = w .values-are;
   },

@@ -9,6 +9,8 @@ pub mod Storing
 pub mod Saves
 pub mod Written
 pub mod Fixed
+pub mod Apart
+pub mod Naming
 pub mod Padding
 mod Images
 mod Meeting

@@ -63,8 +63,8 @@ searched-turn is low step t s e = record {
   none = below-next {P = λ k. is (low + step * k) ≡ false} (s .turns) (s .none) (rw (← s .at) e);
 }
 
-module _ (G : Format) (n : ℕ) (table : List ℕ) (ex : Bool) (low step t : ℕ) (s : Searched (offsetIn (factsIn (formatOf 1) 0 table) ex) low step t) where
-  pub searched-found : low < step → t < 2048 → offsetIn (factsIn (formatOf 1) 0 table) ex t ≡ true → Some (factsIn G n table) ex low step
+module _ (G : Format) (n : ℕ) (table : List ℕ) (ex : Bool) (low step t : ℕ) (s : Searched (offsetIn (factsIn (formatOf 1 0 0) 0 table) ex) low step t) where
+  pub searched-found : low < step → t < 2048 → offsetIn (factsIn (formatOf 1 0 0) 0 table) ex t ≡ true → Some (factsIn G n table) ex low step
   searched-found l h e = record {
     offset = t;
     is = e;
@@ -76,9 +76,9 @@ module _ (G : Format) (n : ℕ) (table : List ℕ) (ex : Bool) (low step t : ℕ
   searched-done h o =
       let q = o .offset / step in
       let e : low + step * q ≡ o .offset = ap (λ (x : ℕ). x + step * q) (sym (o .low-is)) ∙ mod-add-div (o .offset) step in
-      clash (offsetIn (factsIn (formatOf 1) 0 table) ex (o .offset)) (o .is)
+      clash (offsetIn (factsIn (formatOf 1 0 0) 0 table) ex (o .offset)) (o .is)
       (⊎-elim
-      (λ (l : s .turns ≤ q). offset-past (formatOf 1) 0 table ex (o .offset) (omega (arith, s .at, mul-le-mul-left step l)))
+      (λ (l : s .turns ≤ q). offset-past (formatOf 1 0 0) 0 table ex (o .offset) (omega (arith, s .at, mul-le-mul-left step l)))
       (λ (l : q < s .turns). rw e at (s .none q l))
       (le-or-lt (s .turns) q))
 

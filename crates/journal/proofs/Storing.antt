@@ -3,6 +3,7 @@
 -- length.
 -- Assumes nothing.
 use mathlib.Core.Path.{_≡_, refl, sym, _∙_, ap, subst}
+use mathlib.Core.Bool.{Bool, _&&_, and-true, and-assoc}
 use mathlib.Core.List.{List, [], _∷_, _++_, append-assoc, append-nil}
 use mathlib.Core.Logic.{inl, inr}
 use mathlib.Core.Logic.{⊎-elim}
@@ -10,10 +11,11 @@ use Prim.Native.Nat.{ℕ, _+_, _-_, _<_, _≤_}
 use native.Mathlib.Omega.{arith}
 use lib.ListN.{length, take, drop, replicate, length-append, length-drop, length-replicate, take-append-drop, replicate-append-replicate}
 use lib.Seq.{sets, sets-eq, take-at, drop-at, take-add, take-all, take-append-le, take-append-add, drop-append-le, drop-append-add, length-take-le}
+use lib.Dec.{eqb}
 use Rattle.cellset.proofs.Bits.{le-or-lt}
 use Rattle.journal.specs.declared.Commit.{Commit}
 use Rattle.journal.specs.Format.{Format, Checkpoint, image, fillOf, padded, images}
-use Rattle.journal.specs.Reading.{Facts, first, Sound, Rising, lastOf, savedIn, savedValue}
+use Rattle.journal.specs.Reading.{Facts, first, Sound, Rising, lastOf, ownAll, savedIn, savedValue}
 use Rattle.journal.proofs.Paging.{Whole, whole-add, whole-page, whole-next, fill-lt}
 use Rattle.journal.proofs.Decoding.{padded-length, padded-whole}
 use Rattle.journal.proofs.Torn.{ff-join}
@@ -41,6 +43,13 @@ pub saved-snoc : (c : ℕ) (js : List Checkpoint) (s : Checkpoint) (v : ℕ) →
 unfolding savedValue
 saved-snoc c [] s v = refl
 saved-snoc c (j ∷ js) s v = saved-snoc c js s (savedIn c (j .records) v)
+
+pub own-snoc : (owner : ℕ) (js : List Checkpoint) (s : Checkpoint) → ownAll owner (js ++ (s ∷ [])) ≡ (ownAll owner js && eqb (s .commit .owner) owner)
+unfolding ownAll
+own-snoc owner [] s = and-true (eqb (s .commit .owner) owner)
+own-snoc owner (j ∷ js) s =
+    ap (λ (b : Bool). eqb (j .commit .owner) owner && b) (own-snoc owner js s)
+    ∙ sym (and-assoc (eqb (j .commit .owner) owner) (ownAll owner js) (eqb (s .commit .owner) owner))
 
 -- ---- bytes
 
@@ -131,7 +140,7 @@ stored-bytes {F} {chip} {js} {q} h u r =
 
 -- the next bytes of the checkpoint s, not the last
 pub stored : {F : Facts} {chip : List ℕ} {js : List Checkpoint} {q : List ℕ} → Shape F chip js q → (s : Checkpoint) (u more : List ℕ)
-    → Sound F (lastOf first js) s → image s ≡ q ++ u ++ more → 0 < length more → length (images (F .format) js) + length q + length u ≤ length chip
+    → Sound F (lastOf first js) s → image (F .format) s ≡ q ++ u ++ more → 0 < length more → length (images (F .format) js) + length q + length u ≤ length chip
     → Shape F (sets chip (length (images (F .format) js) + length q) u) js (q ++ u)
 stored h s u more g e l r = record {
   free = h .free - length u;
@@ -185,29 +194,29 @@ abbrev pub pageAt : Format → Checkpoint → ℕ → List ℕ
 pageAt G s k = take (G .page) (drop k (padded G s))
 
 -- whole pages of what is stored of a checkpoint, and one page more: short of the end, they are pages of its image
-page-within : (G : Format) (s : Checkpoint) (k : ℕ) → 0 < G .page → Whole (G .page) k → k + G .page < length (padded G s) → k + G .page < length (image s)
+page-within : (G : Format) (s : Checkpoint) (k : ℕ) → 0 < G .page → Whole (G .page) k → k + G .page < length (padded G s) → k + G .page < length (image G s)
 page-within G s k h w l =
     let L = G .page in
     let n = whole-next L (k + L) (length (padded G s)) (whole-add L k L w (whole-page L)) (padded-whole G h s) l in
-    omega (arith, n, padded-length G s, fill-lt L (length (image s)) h)
+    omega (arith, n, padded-length G s, fill-lt L (length (image G s)) h)
 
 -- the filling
 fill : Format → Checkpoint → List ℕ
-fill G s = replicate (fillOf (G .page) (length (image s))) 0xFF
+fill G s = replicate (fillOf (G .page) (length (image G s))) 0xFF
 
-padded-is : (G : Format) (s : Checkpoint) → padded G s ≡ image s ++ fill G s
+padded-is : (G : Format) (s : Checkpoint) → padded G s ≡ image G s ++ fill G s
 unfolding padded fill
 padded-is G s = refl
 
 -- the page number k / L of the checkpoint s, not its last
 pub stored-page : {F : Facts} {chip : List ℕ} {js : List Checkpoint} (s : Checkpoint) (k : ℕ) → 0 < F .format .page → Whole (F .format .page) k
-    → Shape F chip js (take k (image s)) → Sound F (lastOf first js) s → k + F .format .page < length (padded (F .format) s)
+    → Shape F chip js (take k (image (F .format) s)) → Sound F (lastOf first js) s → k + F .format .page < length (padded (F .format) s)
     → length (images (F .format) js) + k + F .format .page ≤ length chip
-    → Shape F (sets chip (length (images (F .format) js) + k) (pageAt (F .format) s k)) js (take (k + F .format .page) (image s))
+    → Shape F (sets chip (length (images (F .format) js) + k) (pageAt (F .format) s k)) js (take (k + F .format .page) (image (F .format) s))
 stored-page {F} {chip} {js} s k pos w h g l r =
     let G = F .format in
     let L = G .page in
-    let i = image s in
+    let i = image G s in
     let m = page-within G s k pos w l in
     let n : length (take k i) ≡ k = length-take-le k i (omega arith) in
     let d : L ≤ length (drop k i) = omega (arith, length-drop k i) in
@@ -222,14 +231,14 @@ stored-page {F} {chip} {js} s k pos w h g l r =
     (subst (λ (a : ℕ). Shape F (sets chip (length (images G js) + a) (pageAt G s k)) js (take k i ++ pageAt G s k)) n z)
 
 -- its last page
-pub completed-page : {F : Facts} {chip : List ℕ} {js : List Checkpoint} (s : Checkpoint) (k : ℕ) → 0 < F .format .page → Shape F chip js (take k (image s))
+pub completed-page : {F : Facts} {chip : List ℕ} {js : List Checkpoint} (s : Checkpoint) (k : ℕ) → 0 < F .format .page → Shape F chip js (take k (image (F .format) s))
     → Sound F (lastOf first js) s → k + F .format .page ≡ length (padded (F .format) s)
     → length (images (F .format) js) + k + F .format .page ≤ length chip
     → Shape F (sets chip (length (images (F .format) js) + k) (pageAt (F .format) s k)) (js ++ (s ∷ [])) []
 completed-page {F} {chip} {js} s k pos h g l r =
     let G = F .format in
     let L = G .page in
-    let i = image s in
+    let i = image G s in
     let m : k ≤ length i = omega (arith, padded-length G s, fill-lt L (length i) pos) in
     let n : length (take k i) ≡ k = length-take-le k i m in
     let d : length (drop k (padded G s)) ≡ L = omega (arith, length-drop k (padded G s)) in

@@ -13,7 +13,7 @@ use borrow.Author.Tests.{eqb-true, eqb-false}
 use Rattle.cellset.proofs.Bits.{le-or-lt}
 use Rattle.program.proofs.Tests.{bool-cases}
 use Rattle.journal.specs.declared.Commit.{Commit}
-use Rattle.journal.specs.Format.{Checkpoint, image, fillOf, padded}
+use Rattle.journal.specs.Format.{Format, Checkpoint, image, fillOf, padded}
 use Rattle.journal.specs.Reading.{Facts, Sound, Begins, Whole}
 use Rattle.journal.proofs.Decoding.{unique, image-end, image-some}
 pub use Rattle.journal.specs.Shape.{Part, Cut}
@@ -50,55 +50,55 @@ no-end (suc m) [] t e = let z : _≡_ {A = ℕ} 0xFF 0x5A = head-eq-of-cons-eq e
 no-end (suc m) (x ∷ u) t e = no-end m u t (tail-eq-of-cons-eq e)
 
 -- an image does not end among FF bytes
-reaches : (s : Checkpoint) (q t : List ℕ) (m : ℕ) → q ++ replicate m 0xFF ≡ image s ++ t → length (image s) ≤ length q
-reaches s q t m e =
-    let z = image-end s in
+reaches : (G : Format) (s : Checkpoint) (q t : List ℕ) (m : ℕ) → q ++ replicate m 0xFF ≡ image G s ++ t → length (image G s) ≤ length q
+reaches G s q t m e =
+    let z = image-end G s in
     let g : q ++ replicate m 0xFF ≡ z .front ++ 0x5A ∷ t = e ∙ ap (λ (l : List ℕ). l ++ t) (z .bytes) ∙ append-assoc (z .front) (0x5A ∷ []) t in
     let n = ap length (z .bytes) ∙ length-append (z .front) (0x5A ∷ []) in
     ⊎-elim
     (λ l. l)
-    (λ (l : length q < length (image s)).
+    (λ (l : length q < length (image G s)).
     let r = nested q (z .front) (replicate m 0xFF) (0x5A ∷ t) g (omega arith) in
     absurd (no-end m (r .0) t (r .2)))
-    (le-or-lt (length (image s)) (length q))
+    (le-or-lt (length (image G s)) (length q))
 
 -- l begins with the image of a checkpoint that is sound after b, whether its page is filled or not
 pub record Front (F : Facts) (b : Commit) (l : List ℕ) : Type 0 where
   pub save : Checkpoint
   pub sound : Sound F b save
   pub rest : List ℕ
-  pub bytes : l ≡ image save ++ rest
+  pub bytes : l ≡ image (F .format) save ++ rest
 
 pub whole-front : {F : Facts} {b : Commit} {l : List ℕ} → Whole F b l → Front F b l
 unfolding padded
 whole-front {F} w =
-    let fill : List ℕ = replicate (fillOf (F .format .page) (length (image (w .save)))) 0xFF in
-    record { save = w .save; sound = w .sound; rest = fill ++ w .rest; bytes = w .bytes ∙ append-assoc (image (w .save)) fill (w .rest) }
+    let fill : List ℕ = replicate (fillOf (F .format .page) (length (image (F .format) (w .save)))) 0xFF in
+    record { save = w .save; sound = w .sound; rest = fill ++ w .rest; bytes = w .bytes ∙ append-assoc (image (F .format) (w .save)) fill (w .rest) }
 
 -- the image at the front of bytes and FF bytes is one of the bytes alone
 pub front-within : {F : Facts} {b : Commit} (q : List ℕ) (m : ℕ) → Front F b (q ++ replicate m 0xFF) → Front F b q
-front-within q m w =
-    let n = nested (image (w .save)) q (w .rest) (replicate m 0xFF) (sym (w .bytes)) (reaches (w .save) q (w .rest) m (w .bytes)) in
+front-within {F} q m w =
+    let n = nested (image (F .format) (w .save)) q (w .rest) (replicate m 0xFF) (sym (w .bytes)) (reaches (F .format) (w .save) q (w .rest) m (w .bytes)) in
     record { save = w .save; sound = w .sound; rest = n .0; bytes = n .1 }
 
 -- where no image stands at the front, no whole checkpoint does, whatever FF bytes follow
 pub no-front : {F : Facts} {b : Commit} (q : List ℕ) → ¬ Front F b q → (m : ℕ) → ¬ Whole F b (q ++ replicate m 0xFF)
 no-front q n m w = n (front-within q m (whole-front w))
 
--- a part and FF bytes after it begin with no whole checkpoint, of this program or another
-pub never-whole : {F F′ : Facts} {b b′ : Commit} (q : List ℕ) (m : ℕ) → Part F b q → ¬ Whole F′ b′ (q ++ replicate m 0xFF)
-never-whole q m p w =
+-- a part and FF bytes after it begin with no whole checkpoint
+pub never-whole : {F : Facts} {b b′ : Commit} → (q : List ℕ) (m : ℕ) → Part F b q → ¬ Whole F b′ (q ++ replicate m 0xFF)
+never-whole {F} q m p w =
     let v = front-within q m (whole-front w) in
-    let i = image (v .save) in
+    let i = image (F .format) (v .save) in
     let e = ap (λ (l : List ℕ). l ++ p .more) (v .bytes) ∙ append-assoc i (v .rest) (p .more) in
-    let g : image (p .save) ++ [] ≡ i ++ (v .rest ++ p .more) = append-nil (image (p .save)) ∙ p .bytes ∙ e in
+    let g : image (F .format) (p .save) ++ [] ≡ i ++ (v .rest ++ p .more) = append-nil (image (F .format) (p .save)) ∙ p .bytes ∙ e in
     let z : [] ≡ v .rest ++ p .more = unique (p .save) (v .save) [] (v .rest ++ p .more) (p .sound) (v .sound) g .1 in
     let h = p .short in
     omega (arith, ap length z, length-append (v .rest) (p .more))
 
 -- nor do FF bytes alone
 pub erased-not-whole : {F : Facts} {b : Commit} (m : ℕ) → ¬ Whole F b (replicate m 0xFF)
-erased-not-whole m w = let f = whole-front w in omega (arith, reaches (f .save) [] (f .rest) m (f .bytes), image-some (f .save))
+erased-not-whole {F} m w = let f = whole-front w in omega (arith, reaches (F .format) (f .save) [] (f .rest) m (f .bytes), image-some (F .format) (f .save))
 
 -- ---- without trailing FF bytes
 

@@ -17,13 +17,13 @@ use Rattle.cellset.proofs.Bits.{le-or-lt}
 use Rattle.cellset.proofs.Members.{In, Rising, members-rising, members-in, members-only, members-below}
 use Rattle.program.proofs.Tests.{bool-cases}
 use Rattle.journal.specs.declared.Commit.{Commit}
-use Rattle.journal.specs.Format.{Saved, fillOf, formatOf, recordImage, commitImage, image, padded}
+use Rattle.journal.specs.Format.{Saved, fillOf, Format, markLength, recordImage, commitImage, image, padded}
 use Rattle.journal.specs.Reading.{Facts, Absent, Once, After, Sound, savedIn}
 use Rattle.journal.specs.Writing.{recordsOf, checkpointOf}
 pub use Rattle.journal.proofs.Decoding.{padded-length}
 use Rattle.journal.proofs.Numbers.{byte-here}
 use Rattle.journal.proofs.Images.{commit-length}
-pub use Rattle.journal.proofs.Images.{commit-readings, commit-outputs, commit-last, commit-past, records-length, records-at, records-past}
+pub use Rattle.journal.proofs.Images.{commit-readings, commit-outputs, commit-owner, commit-last, commit-past, records-length, records-at, records-past}
 
 -- ---- the checkpoint for a set of cells
 
@@ -44,43 +44,44 @@ written-at [] values i = refl
 written-at (c ∷ cs) values zero = refl
 written-at (c ∷ cs) values (suc i) = written-at cs values i
 
-pub image-length : (s values : List ℕ) (c : Commit) → length (image (checkpointOf s values c)) ≡ 6 * length (members s) + 14
+pub image-length : (G : Format) (s values : List ℕ) (c : Commit) → length (image G (checkpointOf s values c)) ≡ 6 * length (members s) + markLength G
 unfolding checkpointOf image
-image-length s values c =
-    omega (arith, records-length (recordsOf (members s) values) (commitImage c), written-length (members s) values, commit-length c)
+image-length G s values c =
+    omega (arith, records-length (recordsOf (members s) values) (commitImage G c), written-length (members s) values, commit-length G c)
 
 -- with the filling
-pub stored-length : (page : ℕ) (s values : List ℕ) (c : Commit) {n f : ℕ} → n ≡ 6 * length (members s) + 14 → f ≡ fillOf page n
-    → n + f ≡ length (padded (formatOf page) (checkpointOf s values c))
-stored-length page s values c {n} {f} e g =
-    let i = length (image (checkpointOf s values c)) in
-    let z : n ≡ i = e ∙ sym (image-length s values c) in
-    let h : f ≡ fillOf page i = g ∙ ap (fillOf page) z in
-    omega (arith, padded-length (formatOf page) (checkpointOf s values c))
+pub stored-length : (G : Format) (s values : List ℕ) (c : Commit) {n f : ℕ} → n ≡ 6 * length (members s) + markLength G → f ≡ fillOf (G .page) n
+    → n + f ≡ length (padded G (checkpointOf s values c))
+stored-length G s values c {n} {f} e g =
+    let i = length (image G (checkpointOf s values c)) in
+    let z : n ≡ i = e ∙ sym (image-length G s values c) in
+    let h : f ≡ fillOf (G .page) i = g ∙ ap (fillOf (G .page)) z in
+    omega (arith, padded-length G (checkpointOf s values c))
 
 -- past its end the filling is read
-pub image-past : (s values : List ℕ) (c : Commit) (k : ℕ) {n : ℕ} → n ≡ length (members s) → 6 * n + 14 ≤ k → 0xFF ≡ getD (image (checkpointOf s values c)) k 0xFF
-image-past s values c k e h = sym (List·getD-eq-default (image (checkpointOf s values c)) 0xFF {n = k} (omega (arith, image-length s values c)))
+pub image-past : (G : Format) (s values : List ℕ) (c : Commit) (k : ℕ) {n : ℕ} → n ≡ length (members s) → 6 * n + markLength G ≤ k
+    → 0xFF ≡ getD (image G (checkpointOf s values c)) k 0xFF
+image-past G s values c k e h = sym (List·getD-eq-default (image G (checkpointOf s values c)) 0xFF {n = k} (omega (arith, image-length G s values c)))
 
 -- n cells: the byte k is one of the record of the cell number k / 6, or one of the commit
-module _ (s values : List ℕ) (c : Commit) (n k x : ℕ) (e : n ≡ length (members s)) where
+module _ (G : Format) (s values : List ℕ) (c : Commit) (n k x : ℕ) (e : n ≡ length (members s)) where
   -- a byte that is there
-  stands : k < 6 * n + 14 → x ≡ getD (image (checkpointOf s values c)) k 0 → x ≡ getD (image (checkpointOf s values c)) k 0xFF
-  stands l h = h ∙ byte-here (image (checkpointOf s values c)) k (omega (arith, image-length s values c))
+  stands : k < 6 * n + markLength G → x ≡ getD (image G (checkpointOf s values c)) k 0 → x ≡ getD (image G (checkpointOf s values c)) k 0xFF
+  stands l h = h ∙ byte-here (image G (checkpointOf s values c)) k (omega (arith, image-length G s values c))
 
   pub image-record : (cell : ℕ) → k < 6 * n → cell ≡ getD (members s) (k / 6) 0
-      → x ≡ getD (recordImage (record { cell = cell; value = getD values cell 0 })) (k % 6) 0 → x ≡ getD (image (checkpointOf s values c)) k 0xFF
+      → x ≡ getD (recordImage (record { cell = cell; value = getD values cell 0 })) (k % 6) 0 → x ≡ getD (image G (checkpointOf s values c)) k 0xFF
   unfolding checkpointOf image
   image-record cell l d h =
       stands (omega arith) (h
       ∙ ap (λ (y : ℕ). getD (recordImage (recordOf values y)) (k % 6) 0) d
       ∙ ap (λ (r : Saved). getD (recordImage r) (k % 6) 0) (sym (written-at (members s) values (k / 6)))
-      ∙ sym (records-at (recordsOf (members s) values) (commitImage c) k (recordOf values 0) (omega (arith, written-length (members s) values))))
+      ∙ sym (records-at (recordsOf (members s) values) (commitImage G c) k (recordOf values 0) (omega (arith, written-length (members s) values))))
 
-  pub image-commit : 6 * n ≤ k → k < 6 * n + 14 → x ≡ getD (commitImage c) (k - 6 * n) 0 → x ≡ getD (image (checkpointOf s values c)) k 0xFF
+  pub image-commit : 6 * n ≤ k → k < 6 * n + markLength G → x ≡ getD (commitImage G c) (k - 6 * n) 0 → x ≡ getD (image G (checkpointOf s values c)) k 0xFF
   unfolding checkpointOf image
   image-commit l m h =
-      stands m (h ∙ sym (records-past (recordsOf (members s) values) (commitImage c) k (k - 6 * n) (omega (arith, written-length (members s) values))))
+      stands m (h ∙ sym (records-past (recordsOf (members s) values) (commitImage G c) k (k - 6 * n) (omega (arith, written-length (members s) values))))
 
 -- none fits where `at` lies past the end
 pub no-room : (n at len : ℕ) → len < at → false ≡ leb (at + n) len

@@ -12,10 +12,10 @@ use Rattle.journal.specs.declared.Scanned.{Scanned}
 use Rattle.journal.specs.declared.Scanned.the-variants as scanned
 use Rattle.journal.specs.declared.tail.Tail.{Tail}
 use Rattle.journal.specs.declared.tail.Tail.the-variants.{Whole, Cut, Bad}
-use Rattle.journal.specs.Format.{Saved, Checkpoint, fieldsOf, fieldsImage, commitImage, recordsImage, filledOf, images}
+use Rattle.journal.specs.Format.{Saved, Checkpoint, fieldsOf, fieldsImage, commitImage, recordsImage, filledOf, ownerWidth, markLength, images}
 use Rattle.journal.specs.Answer.{Blank}
 use Rattle.journal.specs.Reading
-use Rattle.journal.specs.Reading.{Facts, first, Once, After, Rising, lastOf, Torn, savedIn, savedValue}
+use Rattle.journal.specs.Reading.{Facts, first, Once, After, Rising, lastOf, Torn, ownAll, savedIn, savedValue}
 
 -- b says whether P holds
 abbrev pub Decides : Type 0 → Bool → Type 0
@@ -63,11 +63,18 @@ pub record Number (P : ℕ → Type 0) (w : ℕ) (l : List ℕ) : Type 0 where
 pub record Fields (F : Facts) (b : Commit) (l : List ℕ) : Type 0 where
   pub commit : Commit
   pub after : After F b commit
-  pub meets : Meets (fieldsImage (fieldsOf commit) 0x5A) l
+  pub meets : Meets (fieldsImage (fieldsOf (F .format) commit) 0x5A) l
 
--- the commit whose fields stand at i
-abbrev pub commitAt : List ℕ → ℕ → Commit
-commitAt l i = record { place = loadOf 2 l i; exclude = loadOf 2 l (i + 2); readings = loadOf 4 l (i + 4); outputs = loadOf 4 l (i + 8) }
+-- the commit whose fields stand at i, with an owner of so many bytes
+abbrev pub commitAt : (width : ℕ) → List ℕ → ℕ → Commit
+commitAt width l i =
+    record {
+      place = loadOf 2 l i;
+      exclude = loadOf 2 l (i + 2);
+      readings = loadOf 4 l (i + 4);
+      outputs = loadOf 4 l (i + 8);
+      owner = loadOf width l (i + 12);
+    }
 
 -- ---- records
 
@@ -120,18 +127,18 @@ pub record Goes (F : Facts) (b : Commit) (rs : List Saved) (l : List ℕ) : Type
   pub commit : Commit
   pub once : Once (F .cells) (rs ++ more)
   pub after : After F b commit
-  pub meets : Meets (recordsImage more (commitImage commit)) l
+  pub meets : Meets (recordsImage more (commitImage (F .format) commit)) l
 
 -- a commit that is sound after b stands in l at i
 pub record Ends (F : Facts) (b : Commit) (l : List ℕ) (i : ℕ) : Type 0 where
-  pub most : i + 14 ≤ length l
-  pub after : After F b (commitAt l (i + 1))
-  pub bytes : drop i l ≡ commitImage (commitAt l (i + 1)) ++ drop (i + 14) l
+  pub most : i + markLength (F .format) ≤ length l
+  pub after : After F b (commitAt (ownerWidth (F .format)) l (i + 1))
+  pub bytes : drop i l ≡ commitImage (F .format) (commitAt (ownerWidth (F .format)) l (i + 1)) ++ drop (i + markLength (F .format)) l
 
 -- what stands in l at i, behind the records rs
 abbrev pub TailIs : Facts → Commit → List Saved → List ℕ → ℕ → Tail → Type 0
 TailIs F b rs l i Whole = Ends F b l i
-TailIs F b rs l i Cut = Goes F b rs (drop i l) × ((g : Goes F b rs (drop i l)) → length (drop i l) < length (recordsImage (g .more) (commitImage (g .commit))))
+TailIs F b rs l i Cut = Goes F b rs (drop i l) × ((g : Goes F b rs (drop i l)) → length (drop i l) < length (recordsImage (g .more) (commitImage (F .format) (g .commit))))
 TailIs F b rs l i Bad = ¬ Goes F b rs (drop i l)
 
 -- ---- the whole journal
@@ -156,13 +163,14 @@ pub record Refuses (F : Facts) (l : List ℕ) : Type 0 where
   pub stops : Stops F l at saves rest
   pub refused : ¬ Torn F (lastOf first saves) rest
 
-pub record Accepts (F : Facts) (l : List ℕ) (end torn : ℕ) (last : Commit) (values : List ℕ) : Type 0 where
+pub record Accepts (F : Facts) (l : List ℕ) (end torn : ℕ) (last : Commit) (own : Bool) (values : List ℕ) : Type 0 where
   pub saves : List Checkpoint
   pub rest : List ℕ
   pub stops : Stops F l end saves rest
   pub accepted : Torn F (lastOf first saves) rest
   pub torn-is : torn ≡ filledOf (F .format .page) (length rest)
   pub last-is : last ≡ lastOf first saves
+  pub own-is : own ≡ ownAll (F .format .owner) saves
   pub cells : length values ≡ 256
   pub values-are : (c : ℕ) → c < 256 → getD values c 0 ≡ savedValue c saves 0
 
@@ -170,4 +178,4 @@ pub record Accepts (F : Facts) (l : List ℕ) (end torn : ℕ) (last : Commit) (
 abbrev pub WalkIs : Facts → List ℕ → Scanned → List ℕ → Type 0
 WalkIs F l scanned.BadLength values = ⊥
 WalkIs F l scanned.Damaged values = Refuses F l × Blank values
-WalkIs F l (scanned.Found end torn last) values = Accepts F l end torn last values
+WalkIs F l (scanned.Found end torn last own) values = Accepts F l end torn last own values

@@ -2,7 +2,7 @@
 -- Assumes nothing.
 use Prim.Native.Nat.{ℕ, _≤_, _<_, _^_}
 use mathlib.Core.Path.{_≡_}
-use mathlib.Core.Bool.{Bool, true, cond}
+use mathlib.Core.Bool.{Bool, true, cond, _&&_}
 use mathlib.Core.List.{List, [], _∷_, _++_}
 use mathlib.Core.Logic.{_⊎_}
 use lib.ListN.{replicate}
@@ -10,7 +10,7 @@ use lib.Dec.{eqb}
 use Rattle.instruction.specs.Bytes.{cellsOf}
 use Rattle.program.specs.Places.{afterCheckpoint, isExclude}
 use Rattle.journal.specs.declared.Commit.{Commit}
-use Rattle.journal.specs.Format.{Format, Saved, Checkpoint, image, padded, images}
+use Rattle.journal.specs.Format.{Format, ownerWidth, Saved, Checkpoint, image, padded, images}
 
 -- what decides whether a checkpoint is sound: of a program its cells, the offsets after a CHECKPOINT and those of an EXCLUDE; and how the chip is written
 pub record Facts : Type 0 where
@@ -24,7 +24,7 @@ factsOf G p = record { cells = cellsOf p; place = afterCheckpoint p; exclude = i
 
 -- before any checkpoint: "offset 1 and zeros"
 abbrev pub first : Commit
-first = record { place = 1; exclude = 0; readings = 0; outputs = 0 }
+first = record { place = 1; exclude = 0; readings = 0; outputs = 0; owner = 0 }
 
 -- no record is of the cell c
 pub data Absent (c : ℕ) : List Saved → Type 0 where
@@ -46,6 +46,7 @@ pub record After (F : Facts) (b c : Commit) : Type 0 where
   pub readings-fit : c .readings < 2 ^ 32
   pub outputs-rise : b .outputs ≤ c .outputs
   pub outputs-fit : c .outputs < 2 ^ 32
+  pub owner-fits : c .owner < 256 ^ ownerWidth (F .format)
 
 -- "A save is sound if": after the commit b
 pub record Sound (F : Facts) (b : Commit) (s : Checkpoint) : Type 0 where
@@ -67,7 +68,7 @@ pub record Begins (F : Facts) (b : Commit) (q : List ℕ) : Type 0 where
   pub save : Checkpoint
   pub sound : Sound F b save
   pub rest : List ℕ
-  pub bytes : image save ≡ q ++ rest
+  pub bytes : image (F .format) save ≡ q ++ rest
 
 -- l begins with a whole checkpoint that is sound after b, the last page filled
 pub record Whole (F : Facts) (b : Commit) (l : List ℕ) : Type 0 where
@@ -95,6 +96,11 @@ pub record Damaged (F : Facts) (chip : List ℕ) : Type 0 where
   pub rest : List ℕ
   pub reading : Reading F chip saves rest
   pub refused : ¬ Torn F (lastOf first saves) rest
+
+-- every whole mark names this owner. That is no part of soundness: "16 where a whole mark's length or sum is not the plan's" is asked of a chip that "isn't damaged"
+unfoldable pub ownAll : (owner : ℕ) → List Checkpoint → Bool
+ownAll owner [] = true
+ownAll owner (s ∷ js) = eqb (s .commit .owner) owner && ownAll owner js
 
 -- the value that the records give the cell c, v if none does
 unfoldable pub savedIn : ℕ → List Saved → ℕ → ℕ

@@ -15,7 +15,7 @@ pub record Part (F : Facts) (b : Commit) (q : List ℕ) : Type 0 where
   pub save : Checkpoint
   pub sound : Sound F b save
   pub more : List ℕ
-  pub bytes : image save ≡ q ++ more
+  pub bytes : image (F .format) save ≡ q ++ more
   pub short : 0 < length more
 
 -- what a stopped engine leaves behind the whole checkpoints: nothing, or a part of one

@@ -8,10 +8,11 @@ use word::from_bytes;
 use word::load16;
 use word::load32;
 ghost use mathlib.Core.Path.{_≡_};
-ghost use Prim.Native.Nat.{ℕ, _+_, _≤_, _<_};
+ghost use Prim.Native.Nat.{ℕ, _+_, _*_, _≤_, _<_};
+ghost use Rattle.word.specs.Bytes.{loadOf};
 ghost use mathlib.Core.Bool.{true};
 ghost use lib.ListN.{length, drop};
-ghost use Rattle.journal.specs.Format.{Format};
+ghost use Rattle.journal.specs.Format.{Format, ownerWidth};
 ghost use Rattle.journal.specs.Answer.{factsIn};
 ghost use Rattle.journal.specs.Parts.{Decides, byteAt, offsetIn, Some, Number, Fields, commitAt};
 
@@ -96,9 +97,9 @@ fn count_whole(l: &[u8], i: usize, least: u32) -> bool
 }
 
 // The same as `fields_begin` where all the bytes are there, so that no field asks whether it is cut.
-fn fields_whole(l: &[u8], i: usize, table: &[u8; 2048], last: Commit) -> bool
-    requires { ⌜ (i ≤ 90000) × (i + 13 ≤ length (now l)) ⌝ }
-    ensures { λ r. ⌜ ((G : Format) (n : ℕ) → Decides (Fields (factsIn G n (now (table .entry))) last (drop i (now (l .entry)))) r) ⌝ }
+fn fields_whole(l: &[u8], i: usize, table: &[u8; 2048], last: Commit, width: usize) -> bool
+    requires { ⌜ (i ≤ 90000) × (width ≤ 4) × (i + (13 + width) ≤ length (now l)) ⌝ }
+    ensures { λ r. ⌜ ((G : Format) (n : ℕ) → ownerWidth G ≡ width → Decides (Fields (factsIn G n (now (table .entry))) last (drop i (now (l .entry)))) r) ⌝ }
 {
     if !offset_whole(l, i, table, false) {
         return false;
@@ -112,16 +113,16 @@ fn fields_whole(l: &[u8], i: usize, table: &[u8; 2048], last: Commit) -> bool
     if !count_whole(l, i + 8, last.outputs) {
         return false;
     }
-    l[i + 12] == MARK_END
+    l[i + (12 + width)] == MARK_END
 }
 
 // Whether the bytes at i begin the fields and the last byte of a commit that is sound after `last`.
-pub fn fields_begin(l: &[u8], i: usize, table: &[u8; 2048], last: Commit) -> bool
-    requires { ⌜ i ≤ 90000 ⌝ }
-    ensures { λ r. ⌜ ((G : Format) (n : ℕ) → Decides (Fields (factsIn G n (now (table .entry))) last (drop i (now (l .entry)))) r) ⌝ }
+pub fn fields_begin(l: &[u8], i: usize, table: &[u8; 2048], last: Commit, width: usize) -> bool
+    requires { ⌜ (i ≤ 90000) × (width ≤ 4) ⌝ }
+    ensures { λ r. ⌜ ((G : Format) (n : ℕ) → ownerWidth G ≡ width → Decides (Fields (factsIn G n (now (table .entry))) last (drop i (now (l .entry)))) r) ⌝ }
 {
-    if i + 13 <= l.len() {
-        return fields_whole(l, i, table, last);
+    if i + (13 + width) <= l.len() {
+        return fields_whole(l, i, table, last, width);
     }
     if !offset_begins(l, i, table, false) {
         return false;
@@ -138,19 +139,32 @@ pub fn fields_begin(l: &[u8], i: usize, table: &[u8; 2048], last: Commit) -> boo
     true
 }
 
+// The owner that stands at i, which only a commit of kind 1 has.
+fn owner_at(l: &[u8], i: usize, kind: usize) -> u32
+    requires { ⌜ (i + 4 * kind ≤ length (now l)) × (kind ≤ 1) ⌝ }
+    ensures { λ r. ⌜ r ≡ loadOf (4 * kind) (now (l .entry)) i ⌝ }
+{
+    if kind == 0 {
+        return 0;
+    }
+    load32(l, i)
+}
+
 // The commit whose fields stand at i.
-pub fn commit_at(l: &[u8], i: usize) -> Commit
-    requires { ⌜ i + 12 ≤ length (now l) ⌝ }
-    ensures { λ r. ⌜ r ≡ commitAt (now (l .entry)) i ⌝ }
+pub fn commit_at(l: &[u8], i: usize, kind: usize) -> Commit
+    requires { ⌜ (i + 12 + 4 * kind ≤ length (now l)) × (length (now l) ≤ 65536) × (kind ≤ 1) ⌝ }
+    ensures { λ r. ⌜ r ≡ commitAt (4 * kind) (now (l .entry)) i ⌝ }
 {
     let place = load16(l, i);
     let exclude = load16(l, i + 2);
     let readings = load32(l, i + 4);
     let outputs = load32(l, i + 8);
+    let owner = owner_at(l, i + 12, kind);
     Commit {
         place,
         exclude,
         readings,
         outputs,
+        owner,
     }
 }

@@ -5,10 +5,10 @@ use crate::RECORD;
 use crate::fields::fields_begin;
 use crate::fields::some_offset;
 use crate::records::cell_begins;
-ghost use Prim.Native.Nat.{_+_, _≤_};
+ghost use Prim.Native.Nat.{ℕ, _+_, _≤_};
 ghost use mathlib.Core.List.{List};
 ghost use lib.ListN.{length};
-ghost use Rattle.journal.specs.Format.{Format, Saved};
+ghost use Rattle.journal.specs.Format.{formatOf, Saved};
 ghost use Rattle.journal.specs.Reading.{Once};
 ghost use Rattle.journal.specs.Answer.{factsIn};
 ghost use Rattle.journal.specs.Parts.{Stamped, NoRecord, TailIs};
@@ -29,9 +29,10 @@ pub fn tail_at(
     stamp: u32,
     table: &[u8; 2048],
     last: Commit,
+    kind: usize,
 ) -> Tail
-    requires { ⌜ (i ≤ length (now l)) × (length (now l) ≤ 65536) × (n ≤ 256) × NoRecord n stamp (now seen) (now l) i ⌝ }
-    ensures { λ r. ⌜ ((G : Format) (rs : List Saved) → Once n rs → Stamped rs stamp (now (seen .entry)) → TailIs (factsIn G n (now (table .entry))) last rs (now (l .entry)) i r) ⌝ }
+    requires { ⌜ (i ≤ length (now l)) × (length (now l) ≤ 65536) × (n ≤ 256) × NoRecord n stamp (now seen) (now l) i × (kind ≤ 1) ⌝ }
+    ensures { λ r. ⌜ ((page owner : ℕ) (rs : List Saved) → Once n rs → Stamped rs stamp (now (seen .entry)) → TailIs (factsIn (formatOf page kind owner) n (now (table .entry))) last rs (now (l .entry)) i r) ⌝ }
 {
     if l.len() <= i {
         if some_offset(table, false, 0, 1) {
@@ -39,11 +40,11 @@ pub fn tail_at(
         }
         return Tail::Bad;
     }
-    if l[i] == MARK {
-        if !fields_begin(l, i + 1, table, last) {
+    if l[i] as usize == MARK as usize + kind {
+        if !fields_begin(l, i + 1, table, last, 4 * kind) {
             return Tail::Bad;
         }
-        if l.len() < i + 14 {
+        if l.len() < i + (14 + 4 * kind) {
             return Tail::Cut;
         }
         return Tail::Whole;

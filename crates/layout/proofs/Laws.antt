@@ -98,8 +98,8 @@ list-fits f (suc (suc (suc (suc (suc (suc (suc zero))))))) = f .saving
 list-fits f (suc (suc (suc (suc (suc (suc (suc (suc k)))))))) = omega arith
 
 -- the registers whose numbers are these
-abbrev regsOf : (page : ℕ) → List ℕ → Regs
-regsOf page l =
+abbrev regsOf : (page owner : ℕ) → List ℕ → Regs
+regsOf page owner l =
     record {
       pc = getD l 0 0;
       exclude = getD l 1 0;
@@ -110,12 +110,13 @@ regsOf page l =
       erase = getD l 6 0;
       saving = getD l 7 0;
       page = page;
+      owner = owner;
     }
 
 -- the registers that bytes hold are eight numbers, one behind the other
-regs-list : (page : ℕ) (b : List ℕ) → regsList (regsIn page b) ≡ numbersFrom 4 8 b 1280
+regs-list : (page owner : ℕ) (b : List ℕ) → regsList (regsIn page owner b) ≡ numbersFrom 4 8 b 1280
 unfolding regsIn numbersFrom
-regs-list page b = refl
+regs-list page owner b = refl
 
 -- where the cells' bytes end
 pub cells-end : (cells : List ℕ) → length cells ≡ 256 → length (bytesOfAll 4 cells) ≡ 1024
@@ -156,17 +157,17 @@ module _ (r : Regs) (cells marks : List ℕ) (n : length cells ≡ 256) (m : len
 
   -- the bytes of a state hold that state
   pub state-back : ((c : ℕ) → getD cells c 0 < 2 ^ 32) → ((c : ℕ) → getD marks c 0 < 256) → RegsFit r
-      → (regsIn (r .page) (stateBytes r cells marks) ≡ r) × (cellsIn (stateBytes r cells marks) ≡ cells) × (marksIn (stateBytes r cells marks) ≡ marks)
+      → (regsIn (r .page) (r .owner) (stateBytes r cells marks) ≡ r) × (cellsIn (stateBytes r cells marks) ≡ cells) × (marksIn (stateBytes r cells marks) ≡ marks)
   unfolding regsIn
-  state-back f g h = (ap (regsOf (r .page)) (regs-list (r .page) (stateBytes r cells marks) ∙ regs-back h), cells-back f, marks-back g)
+  state-back f g h = (ap (regsOf (r .page) (r .owner)) (regs-list (r .page) (r .owner) (stateBytes r cells marks) ∙ regs-back h), cells-back f, marks-back g)
 
 module _ (b : List ℕ) (h : (k : ℕ) → getD b k 0 < 256) where
   -- storing the state that was loaded changes nothing
-  pub state-again : (page : ℕ) → length b ≡ 1312 → stateBytes (regsIn page b) (cellsIn b) (marksIn b) ≡ b
+  pub state-again : (page owner : ℕ) → length b ≡ 1312 → stateBytes (regsIn page owner b) (cellsIn b) (marksIn b) ≡ b
   unfolding stateBytes cellsIn marksIn
-  state-again page e =
+  state-again page owner e =
       (λ i. numbers-bytes 4 256 b 0 (omega arith) h i ++ numbers-bytes 1 256 b 1024 (omega arith) h i
-      ++ (ap (bytesOfAll 4) (regs-list page b) ∙ numbers-bytes 4 8 b 1280 (omega arith) h) i)
+      ++ (ap (bytesOfAll 4) (regs-list page owner b) ∙ numbers-bytes 4 8 b 1280 (omega arith) h) i)
       ∙ ap (λ (l : List ℕ). l ++ take 32 (drop 1280 b)) (sym (take-add 1024 256 b))
       ∙ sym (take-add 1280 32 b)
       ∙ take-all 1312 b (omega arith)

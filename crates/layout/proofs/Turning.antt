@@ -105,12 +105,12 @@ signed-done at b₀ vs k n q e = rw (signed-all (take n vs), patterns-take n vs,
 -- ---- a state
 
 -- eight numbers that are loaded are the registers
-pub regs-loaded : (b : List ℕ) (g : ℕ) {p x n o s w e v : ℕ} → p ≡ loadOf 4 b 1280 → x ≡ loadOf 4 b 1284 → n ≡ loadOf 4 b 1288 → o ≡ loadOf 4 b 1292 → s ≡ loadOf 4 b 1296
-    → w ≡ loadOf 4 b 1300 → e ≡ loadOf 4 b 1304 → v ≡ loadOf 4 b 1308
-    → record { pc = p; exclude = x; readings = n; outputs = o; stop = s; write = w; erase = e; saving = v; page = g } ≡ regsIn g b
+pub regs-loaded : (b : List ℕ) (g h : ℕ) {p x n o s w e v : ℕ} → p ≡ loadOf 4 b 1280 → x ≡ loadOf 4 b 1284 → n ≡ loadOf 4 b 1288 → o ≡ loadOf 4 b 1292
+    → s ≡ loadOf 4 b 1296 → w ≡ loadOf 4 b 1300 → e ≡ loadOf 4 b 1304 → v ≡ loadOf 4 b 1308
+    → record { pc = p; exclude = x; readings = n; outputs = o; stop = s; write = w; erase = e; saving = v; page = g; owner = h } ≡ regsIn g h b
 unfolding regsIn
-regs-loaded b g p x n o s w e v =
-    λ i. record { pc = p i; exclude = x i; readings = n i; outputs = o i; stop = s i; write = w i; erase = e i; saving = v i; page = g }
+regs-loaded b g h p x n o s w e v =
+    λ i. record { pc = p i; exclude = x i; readings = n i; outputs = o i; stop = s i; write = w i; erase = e i; saving = v i; page = g; owner = h }
 
 -- one register more
 regs-turn : (r : Regs) (b₀ : List ℕ) {b t : List ℕ} (k : ℕ) → k < 8 → b ≡ sets b₀ 1280 (bytesOfAll 4 (take k (regsList r)))

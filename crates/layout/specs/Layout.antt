@@ -11,9 +11,9 @@ use Rattle.layout.specs.Numbers.{numbersFrom, bytesOfAll}
 abbrev pub stateSize : ℕ
 stateSize = 1312
 
--- the state that bytes hold, in a call for a kind of chip, which is no part of them
-unfoldable pub regsIn : (page : ℕ) → List ℕ → Regs
-regsIn page b =
+-- the state that bytes hold, in a call for a kind of chip and for an owner, which are no part of them
+unfoldable pub regsIn : (page owner : ℕ) → List ℕ → Regs
+regsIn page owner b =
     record {
       pc = loadOf 4 b 1280;
       exclude = loadOf 4 b 1284;
@@ -24,6 +24,7 @@ regsIn page b =
       erase = loadOf 4 b 1304;
       saving = loadOf 4 b 1308;
       page = page;
+      owner = owner;
     }
 
 unfoldable pub cellsIn : List ℕ → List ℕ
@@ -33,8 +34,8 @@ unfoldable pub marksIn : List ℕ → List ℕ
 marksIn b = numbersFrom 1 256 b 1024
 
 -- with a journal
-abbrev pub machineIn : (page : ℕ) → (state journal : List ℕ) → Machine
-machineIn page b l = machineOf (regsIn page b) (cellsIn b) (marksIn b) l
+abbrev pub machineIn : (page owner : ℕ) → (state journal : List ℕ) → Machine
+machineIn page owner b l = machineOf (regsIn page owner b) (cellsIn b) (marksIn b) l
 
 -- the bytes that hold a state
 abbrev pub regsList : Regs → List ℕ

@@ -79,9 +79,9 @@ pub fn load_marks(bytes: &[u8]) -> [u8; 256]
     marks
 }
 
-pub fn load_regs(bytes: &[u8], page: u32) -> Regs
+pub fn load_regs(bytes: &[u8], page: u32, owner: u32) -> Regs
     requires { ⌜ 1312 ≤ length (now bytes) ⌝ }
-    ensures { λ r. ⌜ r ≡ regsIn page (now (bytes .entry)) ⌝ }
+    ensures { λ r. ⌜ r ≡ regsIn page owner (now (bytes .entry)) ⌝ }
 {
     Regs {
         pc: load32(bytes, 1280),
@@ -93,15 +93,16 @@ pub fn load_regs(bytes: &[u8], page: u32) -> Regs
         erase: load32(bytes, 1304),
         saving: load32(bytes, 1308),
         page: page as usize,
+        owner,
     }
 }
 
 // The state that the bytes hold.
-pub fn load_state(bytes: &[u8], page: u32) -> State
+pub fn load_state(bytes: &[u8], page: u32, owner: u32) -> State
     requires { ⌜ 1312 ≤ length (now bytes) ⌝ }
-    ensures { λ r. ⌜ (r .regs ≡ regsIn page (now (bytes .entry))) × (r .cells ≡ cellsIn (now (bytes .entry))) × (r .marks ≡ marksIn (now (bytes .entry))) ⌝ }
+    ensures { λ r. ⌜ (r .regs ≡ regsIn page owner (now (bytes .entry))) × (r .cells ≡ cellsIn (now (bytes .entry))) × (r .marks ≡ marksIn (now (bytes .entry))) ⌝ }
 {
-    let regs = load_regs(bytes, page);
+    let regs = load_regs(bytes, page, owner);
     let cells = load_cells(bytes);
     let marks = load_marks(bytes);
     State { regs, cells, marks }

@@ -4,6 +4,7 @@
 // of a step or a run how it ended (1 to 3 a stop and its kind, 4 budget spent, 5 no reading left, 6 output buffer
 // full, or `refused` and the number), its steps, readings taken and outputs written. Last stand outputs and chip.
 use instruction::byte_at;
+use journal::owners::owner_of;
 use libc::STDOUT_FILENO;
 use machine::Passed;
 use recovery::Recovered;
@@ -23,8 +24,8 @@ struct Powered {
     state: State,
 }
 
-// A power-up on a byte chip: recovery, a step and a run, all on the one state that lives here. Here the step, at the
-// plan's start or at a torn save, takes no reading and gives no output, so the run is lent the same readings and
+// A power-up on a byte chip whose MARKs name the owner: recovery, a step and a run, all on the one state that lives
+// here. Here the step, at the plan's start or at a torn save, takes no reading and gives no output, so the run is lent the same readings and
 // outputs.
 fn lend(
     mut state: State,
@@ -34,10 +35,11 @@ fn lend(
     readings: &[i32],
     outputs: &mut [i32],
     budget: u64,
+    owner: u32,
 ) -> Powered
-    ensures { λ r. ⌜ PowersUp (envOf (now (program .entry)) (now (sets .entry))) (now (readings .entry)) budget state (now (journal .entry)) (now (outputs .entry)) r (now (journal .exit)) (now (outputs .exit)) ⌝ }
+    ensures { λ r. ⌜ PowersUp (envOf (now (program .entry)) (now (sets .entry))) (now (readings .entry)) budget owner state (now (journal .entry)) (now (outputs .entry)) r (now (journal .exit)) (now (outputs .exit)) ⌝ }
 {
-    let recovered = machine::recover(&mut state, program, sets, journal, 1);
+    let recovered = machine::recover(&mut state, program, sets, journal, 1, owner);
     let found = state;
     let first = machine::step(&mut state, program, sets, journal, readings, outputs);
     let stepped = state;
@@ -73,6 +75,7 @@ fn spoiled() -> State {
             erase: 4,
             saving: 6,
             page: 1,
+            owner: 8,
         },
         cells: [0xdead_beefu32; 256],
         marks: [9u8; 256],
@@ -123,7 +126,8 @@ fn passed(p: Passed) {
     number(p.written as u64);
 }
 
-// The registers in the order of their declaration, but for the page length, which stays 1, and the three cells.
+// The registers in the order of their declaration, but for the page length and the owner, which are no part of the
+// bytes that a host lends, and the three cells.
 fn left(s: State) {
     let r = s.regs;
     let cells = s.cells;
@@ -183,7 +187,7 @@ fn four(chip: &[u8], at: u32) {
     byte(chip, k + 3);
 }
 
-// The 20 bytes that a save of the small plan takes.
+// The 24 bytes that a save of the small plan takes.
 fn save(chip: &[u8], at: u16) {
     let k = at as u32;
     io::write_all(STDOUT_FILENO, b"chip");
@@ -192,34 +196,38 @@ fn save(chip: &[u8], at: u16) {
     four(chip, k + 8);
     four(chip, k + 12);
     four(chip, k + 16);
+    four(chip, k + 20);
     io::write_all(STDOUT_FILENO, b"\n");
 }
 
 // The small plan on this chip, from any state.
-fn power_up(readings: &[i32], chip: &mut [u8; 60], budget: u64) {
+fn power_up(readings: &[i32], chip: &mut [u8; 72], budget: u64) {
     let mut sets = [0u64; 512];
     sets[0] = 6;
     sets[4] = 4;
     let mut outputs = [0i32; 3];
+    let plan = b"\x02\x02\x00\x00\x00\x00\x00\x07\x01\x04\x00\x00\x01\x08\x00\x0D\x0E\x09\x07\x00";
     let p = lend(
         spoiled(),
-        b"\x02\x02\x00\x00\x00\x00\x00\x07\x01\x04\x00\x00\x01\x08\x00\x0D\x0E\x09\x07\x00",
+        plan,
         &sets,
         chip,
         readings,
         &mut outputs,
         budget,
+        owner_of(plan),
     );
     calls(p);
     outputs_given(&outputs);
     save(chip, 0);
-    save(chip, 20);
-    save(chip, 40);
+    save(chip, 24);
+    save(chip, 48);
 }
 
-// The first save counts one reading, so after the cut the host lends from the second one on.
+// The first budget ends where 33 bytes of saves are stored, 24 of the first and 9 of the second. The first save counts
+// one reading, so after the cut the host lends from the second one on.
 fn main() {
-    let mut chip = [0xffu8; 60];
+    let mut chip = [0xffu8; 72];
     power_up(&[5, 7, -2], &mut chip, 44);
     power_up(&[7, -2], &mut chip, 1000);
 }

@@ -9,7 +9,6 @@ use run::Ended;
 use run::run_value;
 use run::step_value;
 use step::State;
-ghost use mathlib.Core.Path.{_≡_};
 ghost use Rattle.step.specs.State.{envOf, machineOf};
 ghost use Rattle.run.specs.Run.{outcome, CallIs};
 ghost use Rattle.recovery.specs.Recover.{RecoverIs};
@@ -69,18 +68,20 @@ pub fn run(
     }
 }
 
-// Recovery from a journal on a chip with pages of so many bytes, into the state lent.
+// Recovery from a journal on a chip with pages of so many bytes, whose MARKs are to name the owner, into the
+// state lent.
 pub fn recover(
     state: &mut State,
     program: &[u8],
     sets: &[u64],
     journal: &[u8],
     page: u32,
+    owner: u32,
 ) -> Recovered
-    ensures { λ r. ⌜ RecoverIs (envOf (now (program .entry)) (now (sets .entry))) page (machineOf (now (state .entry) .regs) (now (state .entry) .cells) (now (state .entry) .marks) (now (journal .entry))) (recovery.outcome r (machineOf (now (state .exit) .regs) (now (state .exit) .cells) (now (state .exit) .marks) (now (journal .entry)))) ⌝ }
+    ensures { λ r. ⌜ RecoverIs (envOf (now (program .entry)) (now (sets .entry))) page owner (machineOf (now (state .entry) .regs) (now (state .entry) .cells) (now (state .entry) .marks) (now (journal .entry))) (recovery.outcome r (machineOf (now (state .exit) .regs) (now (state .exit) .cells) (now (state .exit) .marks) (now (journal .entry)))) ⌝ }
 {
     let s = *state;
-    let r = recover_value(s, program, sets, journal, page);
+    let r = recover_value(s, program, sets, journal, page, owner);
     *state = r.state;
     r.answer
 }

@@ -14,6 +14,7 @@ use Rattle.step.specs.State.{Env, envOf, Machine, machineOf}
 use Rattle.program.specs.Check.{checkOf, numberOf}
 use Rattle.run.specs.Run.{Outcome, outcome, refusalOf, callOf, answerOf}
 use Rattle.run.proofs.Accepting.{outputs-first}
+use Rattle.journal.specs.Format.{ownerOf}
 use Rattle.layout.specs.Numbers.{numbersFrom, signedOf, signedBytes}
 use Rattle.layout.specs.Layout.{machineIn, bytesOfState}
 use Rattle.stretches.specs.Stretches.{WholeIs}
@@ -43,8 +44,9 @@ odd-run l {k} odd h =
 pub plan-run : (l : RunLent) {k : ℕ} → length (l .state) ≡ 1312 → k ≡ numberOf (checkOf (l .plan)) → ¬ (k ≡ 0) → runRefused l k ≡ runCallOf l
 unfolding runNumber ranOn refusalOf
 plan-run l {k} size h some =
-    let n : k ≡ runNumber l =
-    rw (eq-eqb (length (l .state)) 1312 size, call-number (envOf (l .plan) (setsIn (l .sets))) (signedOf (l .readings)) (l .budget) (machineIn (l .page) (l .state) (l .chip)) (signedOf (l .outputs)), ← h, ne-eqb k 0 some) in
+    let m = machineIn (l .page) (ownerOf (l .plan)) (l .state) (l .chip) in
+    let called = call-number (envOf (l .plan) (setsIn (l .sets))) (signedOf (l .readings)) (l .budget) m (signedOf (l .outputs)) in
+    let n : k ≡ runNumber l = rw (eq-eqb (length (l .state)) 1312 size, called, ← h, ne-eqb k 0 some) in
     ap (runRefused l) n ∙ sym (refuses l (λ z. some (n ∙ z)))
 
 -- bytes of no number
@@ -54,7 +56,8 @@ no-bytes [] h = refl
 no-bytes (v ∷ vs) h = absurd (omega arith)
 
 module _ (l : RunLent) (words : List ℕ) {n : ℕ} {q : Regs} {xs ms : List ℕ} (size : length (l .state) ≡ 1312) (few : n ≡ min (length (l .sets) / 8) 512)
-    (loaded : take n words ≡ numbersFrom 8 n (l .sets) 0) (from : Loaded (l .page) (l .state) q xs ms) {x : Ended} {m : Machine} {steps taken written : ℕ} {b : List ℕ}
+    (loaded : take n words ≡ numbersFrom 8 n (l .sets) 0) {o : ℕ} (named : o ≡ ownerOf (l .plan)) (from : Loaded (l .page) o (l .state) q xs ms)
+    {x : Ended} {m : Machine} {steps taken written : ℕ} {b : List ℕ}
     (r : WholeIs (envOf (l .plan) (take n words)) (signedOf (l .readings)) (l .budget) (machineOf q xs ms (l .chip)) (l .outputs) x m
     steps taken written b) where
   -- what was lent, decoded
@@ -62,7 +65,7 @@ module _ (l : RunLent) (words : List ℕ) {n : ℕ} {q : Regs} {xs ms : List ℕ
   env = envOf (l .plan) (setsIn (l .sets))
 
   abbrev first : Machine
-  first = machineIn (l .page) (l .state) (l .chip)
+  first = machineIn (l .page) (ownerOf (l .plan)) (l .state) (l .chip)
 
   abbrev ρ : List ℤ
   ρ = signedOf (l .readings)
@@ -74,7 +77,7 @@ module _ (l : RunLent) (words : List ℕ) {n : ℕ} {q : Regs} {xs ms : List ℕ
   whole : WholeIs env ρ (l .budget) first (l .outputs) x m steps taken written b
   whole =
       carried (λ (e : Env) (m₀ : Machine). WholeIs e ρ (l .budget) m₀ (l .outputs) x m steps taken written b) (l .plan) (words-in (l .sets) words few loaded)
-      (machine-loaded (l .page) (l .state) (l .chip) from) r
+      (machine-loaded (l .page) (l .plan) (l .state) (l .chip) named from) r
 
   -- the places with the outputs in front
   abbrev outs : List ℤ

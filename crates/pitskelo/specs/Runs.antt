@@ -14,6 +14,7 @@ use Rattle.step.specs.Ready.{Legal}
 use Rattle.run.specs.Run.{Outcome, callOf, answerOf}
 use Rattle.recovery.specs.Recover as recovery
 use Rattle.recovery.specs.Recover.{Recovers}
+use Rattle.journal.specs.Format.{ownerOf}
 use Rattle.layout.specs.Numbers.{numbersFrom, signedOf, signedBytes}
 use Rattle.layout.specs.Layout.{stateSize, machineIn, bytesOfState}
 
@@ -30,7 +31,7 @@ pub record PlanIs (p : List ℕ) (n : ℕ) (table : List ℕ) : Type 0 where
   pub number : n ≡ numberOf (checkOf p)
   pub accepted : n ≡ 0 → Legal p × Places p table
 
--- what a run of the bytes is lent; the entry says the page length of the chip
+-- what a run of the bytes is lent; the entry says the page length of the chip, and the plan is the owner that the chip's MARKs name
 pub record RunLent : Type 0 where
   pub page : ℕ
   pub plan : List ℕ
@@ -52,7 +53,9 @@ pub record RunLeft : Type 0 where
 
 -- the machine's outcome
 unfoldable pub ranOn : RunLent → Outcome
-ranOn l = callOf (envOf (l .plan) (setsIn (l .sets))) (signedOf (l .readings)) (l .budget) (machineIn (l .page) (l .state) (l .chip)) (signedOf (l .outputs))
+ranOn l =
+    callOf (envOf (l .plan) (setsIn (l .sets))) (signedOf (l .readings)) (l .budget) (machineIn (l .page) (ownerOf (l .plan)) (l .state) (l .chip))
+    (signedOf (l .outputs))
 
 unfoldable pub runNumber : RunLent → ℕ
 runNumber l = cond (eqb (length (l .state)) stateSize) (answerOf (ranOn l .ended) .number) (oddState (l .plan) (l .sets))
@@ -78,6 +81,6 @@ runCallOf l = cond (eqb (runNumber l) 0) (runDone l (ranOn l)) (runRefused l (ru
 -- the entries that recover, with the page length of their kind of chip: the result, and the state's bytes after the call from those before it
 pub record RecoverCall (page : ℕ) (p ws chip state₀ state : List ℕ) (result : ℕ) : Type 0 where
   pub outcome : recovery.Outcome
-  pub recovers : length state₀ ≡ stateSize → Recovers (envOf p (setsIn ws)) page (machineIn page state₀ chip) outcome
+  pub recovers : length state₀ ≡ stateSize → Recovers (envOf p (setsIn ws)) page (ownerOf p) (machineIn page (ownerOf p) state₀ chip) outcome
   pub number : result ≡ cond (eqb (length state₀) stateSize) (recovery.answerOf (outcome .answer) .number) (oddState p ws)
   pub left : state ≡ cond (eqb result 0) (bytesOfState (outcome .machine)) state₀

@@ -9,6 +9,7 @@ use ended::kind;
 use ended::refusal;
 use folding::Folded;
 use folding::fold;
+use journal::owners::owner_of;
 use layout::load_cells;
 use layout::load_marks;
 use layout::load_regs;
@@ -156,7 +157,15 @@ fn recover_lent(page: u32, plan: &[u8], sets: &[u8], chip: &[u8], state: &mut [u
     }
     let n = word_count(sets);
     let words = load_words(sets, n);
-    let recovery = recover_value(load_state(state, page), plan, &words[..n], chip, page);
+    let owner = owner_of(plan);
+    let recovery = recover_value(
+        load_state(state, page, owner),
+        plan,
+        &words[..n],
+        chip,
+        page,
+        owner,
+    );
     let answer = recovery.answer;
     let number = restored(answer);
     if number != 0 {
@@ -233,7 +242,7 @@ fn run_lent(
     let mut cells = load_cells(state);
     let mut marks = load_marks(state);
     let ran = run_all(
-        load_regs(state, page),
+        load_regs(state, page, owner_of(plan)),
         plan,
         &table,
         &words[..n],

@@ -2,7 +2,7 @@
 -- Assumes nothing.
 use Prim.Native.Nat.{ℕ, _+_, _-_, _*_, _≤_, _<_}
 use mathlib.Core.Path.{_≡_, refl, sym, ap, subst}
-use mathlib.Core.Bool.{true}
+use mathlib.Core.Bool.{Bool, true, false}
 use mathlib.Core.List.{List, [], _∷_}
 use mathlib.Core.Logic.{_⊎_, inl, ⊎-elim}
 use native.Mathlib.Omega.{arith}
@@ -17,17 +17,16 @@ use Rattle.marks.specs.Marks.{recoveredMarks}
 use Rattle.journal.specs.declared.Commit.{Commit}
 use Rattle.journal.specs.declared.Scanned.{Scanned}
 use Rattle.journal.specs.declared.Scanned.the-variants.{BadLength, Damaged, Found}
-use Rattle.journal.specs.Format.{Checkpoint, formatOf, chipLength}
+use Rattle.journal.specs.Format.{Checkpoint, unowned, formatFor, chipLength}
 use Rattle.journal.specs.Reading.{Facts, factsOf, first, lastOf, Rising, none, one}
-use Rattle.journal.specs.Answer as reader
 use Rattle.journal.specs.Answer.{factsIn, Taken, Scans}
 use Rattle.journal.proofs.Paging.{chip-length}
 use Rattle.journal.proofs.Fixed.{facts-same, within}
 use Rattle.step.specs.declared.Regs.{Regs}
-use Rattle.step.specs.State.{Env, envOf, Machine, machineOf}
+use Rattle.step.specs.State.{envOf, Machine, machineOf}
 use Rattle.step.specs.Ready.{Legal, Ready}
 use Rattle.recovery.specs.declared.Recovered.the-variants.{Restored, Refused}
-use Rattle.recovery.specs.Recover.{refusalOf, regsOf, included, marksBy, outcome, recoverOf, Recovers, refuses, reads}
+use Rattle.recovery.specs.Recover.{refusalOf, regsOf, included, marksBy, outcome, Older, recoverOf, Recovers, refuses, reads}
 
 -- ---- the marks
 
@@ -62,15 +61,15 @@ last-exclude b (s ∷ js) h (one k r) = last-exclude (s .commit) js (k .after .e
 pub not-zero : {p : List ℕ} {n : ℕ} → Checks p (checked.Refused n) → ¬ (n ≡ 0)
 not-zero h z = omega (arith, accepted-values (h .ruled) z)
 
-module _ (p ws : List ℕ) (page : ℕ) (m : Machine) where
+module _ (p ws : List ℕ) (page owner : ℕ) (m : Machine) where
   -- 1 to 8: the program
-  pub refused-program : {n : ℕ} → Checks p (checked.Refused n) → Recovers (envOf p ws) page m (outcome (Refused n) m)
+  pub refused-program : {n : ℕ} → Checks p (checked.Refused n) → Recovers (envOf p ws) page owner m (outcome (Refused n) m)
   unfolding refusalOf
   refused-program {n} h = let z = not-zero h in refuses n (rw (← h .is, ne-eqb n 0 z)) (omega arith) refl
 
   module _ (h : Legal p) where
     -- 9: the words
-    pub refused-words : length ws < 512 → Recovers (envOf p ws) page m (outcome (Refused 9) m)
+    pub refused-words : length ws < 512 → Recovers (envOf p ws) page owner m (outcome (Refused 9) m)
     unfolding refusalOf
     refused-words a = refuses 9 (rw (h .accepted, lt-ltb _ _ a)) (omega arith) refl
 
@@ -81,51 +80,72 @@ module _ (p ws : List ℕ) (page : ℕ) (m : Machine) where
 
 -- ---- what scan answers
 
--- a refusal is recovery's too, with its number
-refusal-made : (e : Env) (page : ℕ) (a : Scanned) (v : List ℕ) (m : Machine) {n : ℕ} → reader.answerOf a .number ≡ n → 0 < n
-    → recoverOf e page a v m ≡ outcome (Refused n) m
-unfolding recoverOf
-refusal-made e page BadLength v m h l = ap (λ (n : ℕ). outcome (Refused n) m) h
-refusal-made e page Damaged v m h l = ap (λ (n : ℕ). outcome (Refused n) m) h
-refusal-made e page (Found end torn last) v m h l = absurd (omega arith)
-
 -- all that is known then
-pub record Answered (page : ℕ) (p ws table chip : List ℕ) (answer : Scanned) (v : List ℕ) : Type 0 where
+pub record Answered (page owner : ℕ) (p ws table chip : List ℕ) (answer : Scanned) (v : List ℕ) : Type 0 where
   pub legal : Legal p
   pub places : Places p table
   pub words : 512 ≤ length ws
-  pub scans : Scans (factsOf (formatOf page) p) chip answer v
+  pub scans : Scans (factsOf (formatFor page owner) p) chip answer v
 
--- what a table that is the program's own holds are the program's facts, so that the reading is by them
-pub answered : (page : ℕ) {p ws : List ℕ} {b : ℕ} (table chip : List ℕ) (answer : Scanned) (v : List ℕ) → Legal p → Places p table → 512 ≤ length ws → b ≡ byte p 0
-    → Scans (factsIn (formatOf page) (b + 1) table) chip answer v → Answered page p ws table chip answer v
-answered page {p} {b = b} table chip answer v h t a e s =
-    let facts : factsIn (formatOf page) (b + 1) table ≡ factsOf (formatOf page) p = rw e (facts-same (formatOf page) p table t) in
-    record { legal = h; places = t; words = a; scans = subst (λ (F : Facts). Scans F chip answer v) facts s }
+-- what a table that is the program's own holds are the program's facts
+pub table-facts : (page owner : ℕ) (p : List ℕ) {b : ℕ} (table : List ℕ) → Places p table → b ≡ byte p 0 → factsIn (formatFor page owner) (b + 1) table ≡ factsOf (formatFor page owner) p
+table-facts page owner p table t e = rw e (facts-same (formatFor page owner) p table t)
 
-module _ {page : ℕ} {p ws table chip : List ℕ} {answer : Scanned} {v : List ℕ} (a : Answered page p ws table chip answer v) where
+-- so that the reading is by them
+pub answered : (page owner : ℕ) {p ws : List ℕ} {b : ℕ} (table chip : List ℕ) (answer : Scanned) (v : List ℕ) → Legal p → Places p table → 512 ≤ length ws → b ≡ byte p 0
+    → Scans (factsIn (formatFor page owner) (b + 1) table) chip answer v → Answered page owner p ws table chip answer v
+answered page owner {p} table chip answer v h t a e s =
+    record { legal = h; places = t; words = a; scans = subst (λ (F : Facts). Scans F chip answer v) (table-facts page owner p table t e) s }
+
+-- and the other reading too
+pub older-read : (page : ℕ) (p : List ℕ) {b n : ℕ} (table chip : List ℕ) → Places p table → b ≡ byte p 0 → Older (factsIn (formatFor page unowned) (b + 1) table) chip n
+    → Older (factsOf (formatFor page unowned) p) chip n
+older-read page p {n = n} table chip t e o = subst (λ (F : Facts). Older F chip n) (table-facts page unowned p table t e) o
+
+-- where something is found, or the length is wrong, nothing is asked of the other reading
+pub found-apart : {A : Type 0} {a : Scanned} {end torn : ℕ} {last : Commit} {own : Bool} → a ≡ Found end torn last own → a ≡ Damaged → A
+found-apart e f = let z : _≡_ {A = ℕ} 0 1 = cc in absurd (omega arith)
+
+length-apart : {A : Type 0} {a : Scanned} → a ≡ BadLength → a ≡ Damaged → A
+length-apart e f = let z : _≡_ {A = ℕ} 0 1 = cc in absurd (omega arith)
+
+module _ {page owner : ℕ} {p ws table chip : List ℕ} {answer : Scanned} {v : List ℕ} (a : Answered page owner p ws table chip answer v) where
   module _ (r : Regs) (xs ms : List ℕ) where
     -- what recovery makes of it
-    of-answer : {b : Scanned} → answer ≡ b → Recovers (envOf p ws) page (machineOf r xs ms chip) (recoverOf (envOf p ws) page b v (machineOf r xs ms chip))
-    of-answer e =
-        reads (no-refusal p ws page (machineOf r xs ms chip) (a .legal) (a .words)) answer v (a .scans)
-        (ap (λ (b : Scanned). recoverOf (envOf p ws) page b v (machineOf r xs ms chip)) (sym e))
+    of-answer : {b : Scanned} → answer ≡ b → (n : ℕ) → (answer ≡ Damaged → Older (factsOf (formatFor page unowned) p) chip n)
+        → Recovers (envOf p ws) page owner (machineOf r xs ms chip) (recoverOf (envOf p ws) page owner b n v (machineOf r xs ms chip))
+    of-answer e n o =
+        reads (no-refusal p ws page owner (machineOf r xs ms chip) (a .legal) (a .words)) answer v (a .scans) n o
+        (ap (λ (b : Scanned). recoverOf (envOf p ws) page owner b n v (machineOf r xs ms chip)) (sym e))
 
-    -- a refusal has scan's number
-    pub refused-chip : {b : Scanned} {n : ℕ} → answer ≡ b → reader.answerOf b .number ≡ n → 0 < n
-        → Recovers (envOf p ws) page (machineOf r xs ms chip) (outcome (Refused n) (machineOf r xs ms chip))
-    refused-chip {b} e h l =
-        subst (Recovers (envOf p ws) page (machineOf r xs ms chip)) (refusal-made (envOf p ws) page b v (machineOf r xs ms chip) h l) (of-answer e)
+    -- 11: a length that no chip has
+    pub refused-length : {n : ℕ} → answer ≡ BadLength → n ≡ 11
+        → Recovers (envOf p ws) page owner (machineOf r xs ms chip) (outcome (Refused n) (machineOf r xs ms chip))
+    unfolding recoverOf
+    refused-length e h = rw h (of-answer e 0 (length-apart e))
+
+    -- 12 or 15: a chip that is damaged as one of the owner's
+    pub refused-damaged : {n : ℕ} → answer ≡ Damaged → Older (factsOf (formatFor page unowned) p) chip n
+        → Recovers (envOf p ws) page owner (machineOf r xs ms chip) (outcome (Refused n) (machineOf r xs ms chip))
+    unfolding recoverOf
+    refused-damaged {n} e o = of-answer e n (λ _. o)
+
+    -- 16: a mark of another plan
+    pub refused-owner : {n end torn : ℕ} {last : Commit} {own : Bool} → answer ≡ Found end torn last own → own ≡ false → n ≡ 16
+        → Recovers (envOf p ws) page owner (machineOf r xs ms chip) (outcome (Refused n) (machineOf r xs ms chip))
+    unfolding recoverOf
+    refused-owner e f h = rw h (rw f at (of-answer e 0 (found-apart e)))
 
     -- the state is restored
-    pub restored : {end torn : ℕ} {last : Commit} {regs : Regs} {marks : List ℕ} → answer ≡ Found end torn last → regs ≡ regsOf end torn last page
-        → marks ≡ marksBy (envOf p ws) (last .exclude) → Recovers (envOf p ws) page (machineOf r xs ms chip) (outcome Restored (machineOf regs v marks chip))
+    pub restored : {end torn : ℕ} {last : Commit} {own : Bool} {regs : Regs} {marks : List ℕ} → answer ≡ Found end torn last own → own ≡ true
+        → regs ≡ regsOf end torn last page owner → marks ≡ marksBy (envOf p ws) (last .exclude)
+        → Recovers (envOf p ws) page owner (machineOf r xs ms chip) (outcome Restored (machineOf regs v marks chip))
     unfolding recoverOf
-    restored e f g = rw (f, g) (of-answer e)
+    restored e d f g = rw (f, g) (rw d at (of-answer e 0 (found-apart e)))
 
-  module _ {end torn : ℕ} {last : Commit} (e : answer ≡ Found end torn last) where
+  module _ {end torn : ℕ} {last : Commit} {own : Bool} (e : answer ≡ Found end torn last own) where
     -- the journal's reading, of which it is the answer
-    found : (chipLength page (length chip) ≡ true) × Taken (factsOf (formatOf page) p) chip end torn last v
+    found : (chipLength page (length chip) ≡ true) × Taken (factsOf (formatFor page owner) p) chip end torn last own v
     found = rw e at (a .scans)
 
     -- what was found is no longer than the longest chip

@@ -1,10 +1,11 @@
 // Recovery (document 01: "Every run begins with recovery, on an erased chip too"): the state that a
-// journal holds. `recover_value` takes any program, words, journal, page length and state, and gives the
+// journal holds. `recover_value` takes any program, words, journal, page length, owner and state, and gives the
 // state that the one reading of the journal makes, or a refusal that alters nothing: `RecoverIs` of specs/Recover.antt.
 // What that state is good for is proved in crate `restart`.
 use instruction::byte_at;
 use journal::Commit;
 use journal::Scanned;
+use journal::owners::UNOWNED;
 use journal::scan;
 use marks::recover;
 use program::Checked;
@@ -16,11 +17,13 @@ use step::State;
 ghost use mathlib.Core.Path.{_≡_};
 ghost use mathlib.Core.Bool.{true};
 ghost use mathlib.Core.Logic.{_⊎_};
-ghost use Prim.Native.Nat.{_≤_};
+ghost use Prim.Native.Nat.{_+_, _≤_};
+ghost use Rattle.journal.specs.Format.{unowned, formatFor};
+ghost use Rattle.journal.specs.Answer.{factsIn};
 ghost use Rattle.program.specs.Places.{Places, isExclude};
 ghost use Rattle.step.specs.State.{envOf, machineOf};
 ghost use Rattle.step.specs.Ready.{Legal, Ready};
-ghost use Rattle.recovery.specs.Recover.{regsOf, marksBy, outcome, Recovers, RecoverIs};
+ghost use Rattle.recovery.specs.Recover.{regsOf, marksBy, outcome, Older, Recovers, RecoverIs};
 
 // The answer: the state is restored, or why not. `answerOf` of specs/Recover.antt gives document 01's number.
 pub enum Recovered {
@@ -44,9 +47,9 @@ fn refused(state: State, number: u32) -> Recovery
 }
 
 // The registers: the last commit's, with the pages of torn bytes behind the whole checkpoints to erase.
-fn regs_of(end: usize, torn: usize, last: Commit, page: u32) -> Regs
+fn regs_of(end: usize, torn: usize, last: Commit, page: u32, owner: u32) -> Regs
     requires { ⌜ (end ≤ 65536) × (torn ≤ 65536) ⌝ }
-    ensures { λ r. ⌜ r ≡ regsOf end torn last page ⌝ }
+    ensures { λ r. ⌜ r ≡ regsOf end torn last page owner ⌝ }
 {
     Regs {
         pc: last.place as u32,
@@ -58,6 +61,7 @@ fn regs_of(end: usize, torn: usize, last: Commit, page: u32) -> Regs
         erase: torn as u32,
         saving: 0,
         page: page as usize,
+        owner,
     }
 }
 
@@ -79,6 +83,30 @@ fn marks_by(program: &[u8], table: &[u8; 2048], sets: &[u64], x: usize) -> [u8; 
     marks
 }
 
+// The number of a journal that is damaged as one of the owner's: 15 where it reads with MARKs that name no plan
+// and one of them is whole, else 12.
+fn damaged_as(journal: &[u8], highest: u8, table: &[u8; 2048], page: usize) -> u32
+    ensures { λ r. ⌜ Older (factsIn (formatFor page unowned) (highest + 1) (now (table .entry))) (now (journal .entry)) r ⌝ }
+{
+    let contents = scan(journal, highest, table, page, UNOWNED);
+    let answer = contents.answer;
+    match answer {
+        Scanned::BadLength => 12,
+        Scanned::Damaged => 12,
+        Scanned::Found {
+            end,
+            torn: _,
+            last: _,
+            own: _,
+        } => {
+            if 0 < end {
+                return 15;
+            }
+            12
+        }
+    }
+}
+
 // The recovery for an accepted program, which the other refusals may still prevent.
 fn recover_legal(
     state: State,
@@ -87,21 +115,31 @@ fn recover_legal(
     sets: &[u64],
     journal: &[u8],
     page: u32,
+    owner: u32,
 ) -> Recovery
     requires { ⌜ Legal (now program) × Places (now program) (now table) ⌝ }
-    ensures { λ r. ⌜ Recovers (envOf (now (program .entry)) (now (sets .entry))) page (machineOf (state .regs) (state .cells) (state .marks) (now (journal .entry))) (outcome (r .answer) (machineOf (r .state .regs) (r .state .cells) (r .state .marks) (now (journal .entry)))) ⌝ }
+    ensures { λ r. ⌜ Recovers (envOf (now (program .entry)) (now (sets .entry))) page owner (machineOf (state .regs) (state .cells) (state .marks) (now (journal .entry))) (outcome (r .answer) (machineOf (r .state .regs) (r .state .cells) (r .state .marks) (now (journal .entry)))) ⌝ }
 {
     if sets.len() < 512 {
         return refused(state, 9);
     }
-    let contents = scan(journal, byte_at(program, 0), table, page as usize);
+    let highest = byte_at(program, 0);
+    let contents = scan(journal, highest, table, page as usize, owner);
     let answer = contents.answer;
     let cells = contents.values;
     match answer {
         Scanned::BadLength => refused(state, 11),
-        Scanned::Damaged => refused(state, 12),
-        Scanned::Found { end, torn, last } => {
-            let regs = regs_of(end, torn, last, page);
+        Scanned::Damaged => refused(state, damaged_as(journal, highest, table, page as usize)),
+        Scanned::Found {
+            end,
+            torn,
+            last,
+            own,
+        } => {
+            if !own {
+                return refused(state, 16);
+            }
+            let regs = regs_of(end, torn, last, page, owner);
             let marks = marks_by(program, table, sets, last.exclude as usize);
             Recovery {
                 state: State { regs, cells, marks },
@@ -111,16 +149,17 @@ fn recover_legal(
     }
 }
 
-// Recovery from a journal on a chip with pages of so many bytes, or a refusal that alters nothing; nothing is
-// stored on the journal.
+// Recovery from a journal on a chip with pages of so many bytes, whose MARKs are to name the owner (0: MARKs that
+// name none), or a refusal that alters nothing; nothing is stored on the journal.
 pub fn recover_value(
     state: State,
     program: &[u8],
     sets: &[u64],
     journal: &[u8],
     page: u32,
+    owner: u32,
 ) -> Recovery
-    ensures { λ r. ⌜ RecoverIs (envOf (now (program .entry)) (now (sets .entry))) page (machineOf (state .regs) (state .cells) (state .marks) (now (journal .entry))) (outcome (r .answer) (machineOf (r .state .regs) (r .state .cells) (r .state .marks) (now (journal .entry)))) ⌝ }
+    ensures { λ r. ⌜ RecoverIs (envOf (now (program .entry)) (now (sets .entry))) page owner (machineOf (state .regs) (state .cells) (state .marks) (now (journal .entry))) (outcome (r .answer) (machineOf (r .state .regs) (r .state .cells) (r .state .marks) (now (journal .entry)))) ⌝ }
 {
     let mut table = blank();
     match examine(program, &mut table) {
@@ -129,6 +168,6 @@ pub fn recover_value(
             cells: _,
             instructions: _,
             excludes: _,
-        } => recover_legal(state, program, &table, sets, journal, page),
+        } => recover_legal(state, program, &table, sets, journal, page, owner),
     }
 }

@@ -17,7 +17,7 @@ use Rattle.program.proofs.Accepted.{Accepted, accepted, start-within}
 use Rattle.program.proofs.AfterLaws.{after-checkpoint}
 use Rattle.execution.specs.Effects.{nextOf}
 use Rattle.marks.specs.Marks.{isStored, toStore, storedFrom, storedCells}
-use Rattle.journal.specs.Format.{Format}
+use Rattle.journal.specs.Format.{Format, ownerWidth}
 use Rattle.journal.specs.declared.Commit.{Commit}
 use Rattle.journal.specs.Reading.{factsOf, Absent, Once, Sound, savedIn}
 use Rattle.journal.specs.Writing.{recordsOf}
@@ -128,9 +128,9 @@ module _ (p : List ℕ) {c n e : ℕ} (a : Accepted p c n e) where
 -- at a CHECKPOINT it is sound after each commit whose counts are not higher
 pub checkpoint-sound : (G : Format) (p : List ℕ) → Plan p → (m : Machine) → Small m → isStart p (m .regs .pc) ≡ true → byte p (m .regs .pc) ≡ 0x0E
     → (m .regs .exclude ≡ 0) ⊎ (isExclude p (m .regs .exclude) ≡ true) → (b : Commit) → b .readings ≤ m .regs .readings → b .outputs ≤ m .regs .outputs
-    → Sound (factsOf G p) b (checkpointAt p m)
+    → m .regs .owner < 256 ^ ownerWidth G → Sound (factsOf G p) b (checkpointAt p m)
 unfolding checkpointAt storedCells
-checkpoint-sound G p l m s st k x b r o =
+checkpoint-sound G p l m s st k x b r o w =
     let a = accepted p (sym (l .legal .accepted)) in
     let e = next-one p (m .regs .pc) k in
     record {
@@ -145,5 +145,6 @@ checkpoint-sound G p l m s st k x b r o =
             readings-fit = s .readings;
             outputs-rise = o;
             outputs-fit = s .outputs;
+            owner-fits = w;
           };
     }

@@ -11,8 +11,8 @@ use Rattle.program.specs.Check.{checkOf}
 use Rattle.execution.specs.Effects.{effectOf}
 use Rattle.analysis.specs.Analyse.{analyseOf}
 use Rattle.marks.specs.Marks.{mapBelow, excludedMarks, savedMarks, recoveredMarks, storedFrom, storedCells}
-use Rattle.journal.specs.Format.{chipLength, fillOf, fieldsImage, recordsImage, image, padded, images}
-use Rattle.journal.specs.Reading.{lastOf, savedIn, savedValue}
+use Rattle.journal.specs.Format.{sumOf, ownerOf, kindOf, chipLength, fillOf, fieldsImage, recordsImage, image, padded, images}
+use Rattle.journal.specs.Reading.{lastOf, ownAll, savedIn, savedValue}
 use Rattle.journal.specs.Writing.{recordsOf}
 use Rattle.step.specs.State.{checkpointAt, imageAt, sizeAt, zeroFrom, marksFrom, soundOf}
 use Rattle.step.specs.Step.{effectAt, performed, begun, executedOf, erasedOf, storedOf, stepOf, dueOpcode, givenOf, takenOf}
@@ -32,7 +32,7 @@ use Rattle.restart.proofs.Shaped.{savesFrom}
 unfoldable pub computing : Unit {0}
 unfolding addOf subOf divOf lessOf placeOf bytesOf numberOf loadOf bit lengthOf instructionAt access successors startsFrom starts refusalAt firstRefusal
     excludes lastOpcode among jumpsAmong opcodeBefore excludesBefore checkOf effectOf analyseOf mapBelow excludedMarks savedMarks recoveredMarks storedFrom
-    storedCells fieldsImage recordsImage image fillOf padded images chipLength lastOf savedIn savedValue recordsOf checkpointAt imageAt sizeAt zeroFrom marksFrom soundOf effectAt
+    storedCells sumOf ownerOf kindOf ownAll fieldsImage recordsImage image fillOf padded images chipLength lastOf savedIn savedValue recordsOf checkpointAt imageAt sizeAt zeroFrom marksFrom soundOf effectAt
     performed begun executedOf erasedOf storedOf stepOf dueOpcode givenOf takenOf exitBefore stepped runOf lateRefusal run.refusalOf callOf recovery.refusalOf
     included marksBy zeros numberedFrom frameAfter effectIn stays nextFrame outputAt gathered refAt emitted retires tallied talliedOver outcomeOf tallyAfter
     ran stands distinct ranFrom smallSets tabulated valuesOf sameNumbers sameOutputs sameEnd sameEffect savesFrom

@@ -20,8 +20,8 @@ use Rattle.program.proofs.Tests.{and-both}
 use Rattle.execution.specs.Effects.{ended}
 use Rattle.analysis.proofs.Certificates.{allOf}
 use Rattle.analysis.proofs.Computed.{analyses-by}
-use Rattle.journal.specs.Format.{Checkpoint, formatOf, filledOf, image}
-use Rattle.journal.specs.Reading.{factsOf}
+use Rattle.journal.specs.Format.{Checkpoint, unowned, ownerOf, formatFor, filledOf, image}
+use Rattle.journal.specs.Reading.{factsOf, ownAll}
 use Rattle.journal.specs.Shape.{Shape}
 use Rattle.journal.proofs.Paging.{whole-none, fill-none}
 use Rattle.journal.proofs.Torn.{Trimmed, trimmed-nil, trimmed-snoc}
@@ -34,7 +34,7 @@ use Rattle.recovery.specs.declared.Recovered.the-variants.{Restored}
 use Rattle.restart.specs.Reference.{zeros, Numbered, refAt, emitted}
 use Rattle.restart.specs.History.{Tally, setBack, System, unused, restored, crashed, Lent, given, refusedRun, Request, outcomeOf, ran, History, begins, recovers, runs, crashed-run}
 use Rattle.restart.specs.Claim.{Plan, Found, distinct, Claim, Chain, one, more, beside-run, Erased}
-use Rattle.restart.specs.Rows.{Trial, envIn, small, smallSets, trialOn, trial, firstSave}
+use Rattle.restart.specs.Rows.{Trial, envIn, small, smallSets, trialOn, trialUntil, firstSave, firstUntil}
 use Rattle.restart.proofs.Outcomes.{refusalOf, valuesOf, values-some, stateOf, outcome-is}
 use Rattle.restart.proofs.Computing.{computing}
 use Rattle.restart.proofs.Shaped.{shape-by}
@@ -62,7 +62,7 @@ inFour (x ∷ xs) = x ∷ 0 ∷ 0 ∷ 0 ∷ inFour xs
 
 -- what a state may hold before a recovery: no cells, no marks, registers that are not sound
 abbrev pub spoiled : List ℕ → Machine
-spoiled chip = machineOf (record { pc = 4; exclude = 9; readings = 8; outputs = 7; stop = 6; write = 50; erase = 40; saving = 3; page = 5 }) [] [] chip
+spoiled chip = machineOf (record { pc = 4; exclude = 9; readings = 8; outputs = 7; stop = 6; write = 50; erase = 40; saving = 3; page = 5; owner = 3 }) [] [] chip
 
 abbrev pub tallyOf : (retired committed highest : ℕ) → Tally
 tallyOf r c h = record { retired = r; committed = c; highest = h }
@@ -73,11 +73,11 @@ output n v = record { number = n; value = v }
 module _ (t : Trial) where
   -- 01's own lists
   abbrev pub Lists : System → Type 0
-  Lists = History (t .program) (t .readings) (t .page) (t .chip) 0 (Erased (t .chip)) (λ w. w ≡ t .words)
+  Lists = History (t .program) (t .readings) (t .page) (t .owner) (t .chip) 0 (Erased (t .chip)) (λ w. w ≡ t .words)
 
   -- the system after a recovery that finds the checkpoints js and so many torn bytes; the first one finds none
   abbrev pub recovered : System → List Checkpoint → ℕ → System
-  recovered s js torn = restored s (outcome Restored (stateOf (envIn t) (t .page) js torn (valuesOf js) (s .machine .journal)))
+  recovered s js torn = restored s (outcome Restored (stateOf (envIn t) (t .page) (t .owner) js torn (valuesOf js) (s .machine .journal)))
 
   abbrev pub begun : System
   begun = recovered (unused 0 (spoiled (replicate (t .chip) 0xFF))) [] 0
@@ -87,17 +87,18 @@ module _ (t : Trial) where
   request = record { words = t .words; readings = length (t .readings); budget = t .budget; places = t .places }
 
   -- a recovery finds what stands on the chip
-  recovery : {s : System} → Lists s → (js : List Checkpoint) (q : List ℕ) → Shape (factsOf (formatOf (t .page)) (t .program)) (s .machine .journal) js q
-      → refusalOf (envIn t) (t .page) (length (s .machine .journal)) ≡ 0 → Trimmed q → Lists (recovered s js (filledOf (t .page) (length q)))
-  recovery {s} h js q shape z trimmed =
-      recovers h (t .words) refl _ (outcome-is (envIn t) (t .page) (s .machine) js q shape z trimmed (valuesOf js) (values-some js)) refl
+  recovery : {s : System} → Lists s → (js : List Checkpoint) (q : List ℕ) → Shape (factsOf (formatFor (t .page) (t .owner)) (t .program)) (s .machine .journal) js q
+      → ownAll (t .owner) js ≡ true → refusalOf (envIn t) (t .page) (length (s .machine .journal)) ≡ 0 → Trimmed q → Lists (recovered s js (filledOf (t .page) (length q)))
+  recovery {s} h js q shape own z trimmed =
+      recovers h (t .words) refl _ (outcome-is (envIn t) (t .page) (t .owner) (s .machine) js own q shape z trimmed (valuesOf js) (values-some js)) refl
 
   -- a list begins, and recovers
   pub beginning : refusalOf (envIn t) (t .page) (length {A = ℕ} (replicate (t .chip) 0xFF)) ≡ 0 → Lists begun
+  unfolding ownAll
   beginning z =
       let none : filledOf (t .page) 0 ≡ 0 = omega (arith, fill-none (t .page) 0 (whole-none (t .page))) in
       subst (λ (torn : ℕ). Lists (recovered (unused 0 (spoiled (replicate (t .chip) 0xFF))) [] torn)) none
-      (recovery (begins (spoiled (replicate (t .chip) 0xFF)) (length-replicate {A = ℕ} (t .chip) 0xFF) refl) [] [] (erased-shape (t .chip)) z trimmed-nil)
+      (recovery (begins (spoiled (replicate (t .chip) 0xFF)) (length-replicate {A = ℕ} (t .chip) 0xFF) refl) [] [] (erased-shape (t .chip)) refl z trimmed-nil)
 
 -- ---- the small plan
 
@@ -125,56 +126,57 @@ small-found = record {
 
 -- 5, 7, −2
 abbrev pub smallReadings : List ℤ
-smallReadings = trial 60 1000 .readings
+smallReadings = trialUntil 60 1000 .readings
 
 -- the checkpoint of cell 0 behind its CHECKPOINT
-abbrev pub saveOf : (value readings outputs : ℕ) → Checkpoint
-saveOf v n m = record { records = record { cell = 0; value = v } ∷ []; commit = record { place = 17; exclude = 15; readings = n; outputs = m } }
+abbrev pub saveOf : (owner value readings outputs : ℕ) → Checkpoint
+saveOf owner v n m =
+    record { records = record { cell = 0; value = v } ∷ []; commit = record { place = 17; exclude = 15; readings = n; outputs = m; owner = owner } }
 
 -- the 13 bytes of the second one that are stored
 abbrev pub tornBytes : List ℕ
-tornBytes = take 13 (image (saveOf 12 2 2))
+tornBytes = take 13 (image (formatFor 1 unowned) (saveOf unowned 12 2 2))
 
 -- after the first recovery
 unfoldable pub smallBegun : System
-smallBegun = begun (trial 60 45)
+smallBegun = begun (trialUntil 60 45)
 
 -- after a run that is cut behind 45 steps; the state is lost
 unfoldable pub smallCut : System
-smallCut = crashed (ran small smallReadings smallBegun (request (trial 60 45))) (spoiled [])
+smallCut = crashed (ran small smallReadings smallBegun (request (trialUntil 60 45))) (spoiled [])
 
 -- after a recovery that finds the first save and 13 torn bytes
 unfoldable pub smallTaken : System
-smallTaken = recovered (trial 60 1000) smallCut (saveOf 5 1 1 ∷ []) 13
+smallTaken = recovered (trialUntil 60 1000) smallCut (saveOf unowned 5 1 1 ∷ []) 13
 
 -- after a run that takes the readings that are left
 unfoldable pub smallDone : System
-smallDone = ran small smallReadings smallTaken (request (trial 60 1000))
+smallDone = ran small smallReadings smallTaken (request (trialUntil 60 1000))
 
 -- the torn bytes do not end in FF
 torn-trimmed : Trimmed tornBytes
 unfolding computing
-torn-trimmed = trimmed-snoc (take 12 (image (saveOf 12 2 2))) 0 (λ e. omega arith)
+torn-trimmed = trimmed-snoc (take 12 (image (formatFor 1 unowned) (saveOf unowned 12 2 2))) 0 (λ e. omega arith)
 
-small-cut : Lists (trial 60 45) smallCut
+small-cut : Lists (trialUntil 60 45) smallCut
 unfolding computing smallBegun smallCut
-small-cut = crashed-run (beginning (trial 60 45) refl) refl (request (trial 60 45)) refl tt (spoiled [])
+small-cut = crashed-run (beginning (trialUntil 60 45) refl) refl (request (trialUntil 60 45)) refl tt (spoiled [])
 
-small-taken : Lists (trial 60 1000) smallTaken
+small-taken : Lists (trialUntil 60 1000) smallTaken
 unfolding computing smallBegun smallCut smallTaken
 small-taken =
-    recovery (trial 60 1000) small-cut (saveOf 5 1 1 ∷ []) tornBytes
-    (shape-by (factsOf (formatOf 1) small) (smallCut .machine .journal) (saveOf 5 1 1 ∷ []) (saveOf 12 2 2) 13 refl) refl torn-trimmed
+    recovery (trialUntil 60 1000) small-cut (saveOf unowned 5 1 1 ∷ []) tornBytes
+    (shape-by (factsOf (formatFor 1 unowned) small) (smallCut .machine .journal) (saveOf unowned 5 1 1 ∷ []) (saveOf unowned 12 2 2) 13 refl) refl refl torn-trimmed
 
 -- these calls are a history
-pub small-history : History small smallReadings 1 60 0 (Erased 60) (λ w. w ≡ smallSets) smallDone
+pub small-history : History small smallReadings 1 unowned 60 0 (Erased 60) (λ w. w ≡ smallSets) smallDone
 unfolding computing smallBegun smallCut smallTaken smallDone
-small-history = runs small-taken refl (request (trial 60 1000)) refl tt
+small-history = runs small-taken refl (request (trialUntil 60 1000)) refl tt
 
 -- the cut falls inside the second save: of 11 commands executed 6 are committed, two outputs are given, and 33 bytes are stored
 pub cut-facts : (smallCut .tally ≡ tallyOf 11 6 11)
     × (smallCut .outputs ≡ output 0 (pos 5) ∷ output 1 (pos 12) ∷ [])
-    × (take 20 (smallCut .machine .journal) ≡ firstSave)
+    × (take 20 (smallCut .machine .journal) ≡ firstUntil)
     × (take 13 (drop 20 (smallCut .machine .journal))
     ≡ 0xA1 ∷ 0x00 ∷ 0x0C ∷ 0x00 ∷ 0x00 ∷ 0x00 ∷ 0xA2 ∷ 0x11 ∷ 0x00 ∷ 0x0F ∷ 0x00 ∷ 0x02 ∷ 0x00 ∷ [])
     × (drop 33 (smallCut .machine .journal) ≡ replicate 27 0xFF)
@@ -191,7 +193,7 @@ unfolding computing smallTaken
 taken-facts = (ap setBack (cut-facts .0), refl, refl, refl)
 
 -- the last run ends for want of a reading; the second output is given again, and repetitions aside they are 5, 12, 10; three saves fill the chip
-pub small-facts : (outcomeOf small smallReadings (smallTaken .machine) (request (trial 60 1000)) .ended ≡ NoReading)
+pub small-facts : (outcomeOf small smallReadings (smallTaken .machine) (request (trialUntil 60 1000)) .ended ≡ NoReading)
     × (smallDone .tally ≡ tallyOf 19 18 19)
     × (smallDone .outputs ≡ output 0 (pos 5) ∷ output 1 (pos 12) ∷ output 1 (pos 12) ∷ output 2 (pos 10) ∷ [])
     × (distinct [] (smallDone .outputs) ≡ output 0 (pos 5) ∷ output 1 (pos 12) ∷ output 2 (pos 10) ∷ [])
@@ -202,46 +204,46 @@ unfolding computing smallBegun smallCut smallTaken smallDone
 small-facts = (refl, refl, refl, refl, refl, refl, refl)
 
 -- demand 3 of it
-pub small-claim : Claim small smallReadings zeros 60 0 (λ w. w ≡ smallSets) 1 smallDone
-small-claim = demand-3 1 small small-plan smallReadings 60 smallSets small-found smallDone small-history
+pub small-claim : Claim small smallReadings zeros 60 0 (λ w. w ≡ smallSets) 1 unowned smallDone
+small-claim = demand-3 1 small small-plan unowned (inr refl) smallReadings 60 smallSets small-found smallDone small-history
 
 -- ---- the small plan on a page chip
 
 -- 96 bytes; the run is cut between the two pages of its second save, behind 15 steps
 unfoldable pub pageBegun : System
-pageBegun = begun (trialOn 16 96 15)
+pageBegun = begun (trialOn 16 (ownerOf small) 96 15)
 
 unfoldable pub pageCut : System
-pageCut = crashed (ran small smallReadings pageBegun (request (trialOn 16 96 15))) (spoiled [])
+pageCut = crashed (ran small smallReadings pageBegun (request (trialOn 16 (ownerOf small) 96 15))) (spoiled [])
 
 -- recovery finds the first save and a torn page
 unfoldable pub pageTaken : System
-pageTaken = recovered (trialOn 16 96 1000) pageCut (saveOf 5 1 1 ∷ []) 16
+pageTaken = recovered (trialOn 16 (ownerOf small) 96 1000) pageCut (saveOf (ownerOf small) 5 1 1 ∷ []) 16
 
 unfoldable pub pageDone : System
-pageDone = ran small smallReadings pageTaken (request (trialOn 16 96 1000))
+pageDone = ran small smallReadings pageTaken (request (trialOn 16 (ownerOf small) 96 1000))
 
 -- the page does not end in FF
-page-trimmed : Trimmed (take 16 (image (saveOf 12 2 2)))
+page-trimmed : Trimmed (take 16 (image (formatFor 16 (ownerOf small)) (saveOf (ownerOf small) 12 2 2)))
 unfolding computing
-page-trimmed = trimmed-snoc (take 15 (image (saveOf 12 2 2))) 2 (λ e. omega arith)
+page-trimmed = trimmed-snoc (take 15 (image (formatFor 16 (ownerOf small)) (saveOf (ownerOf small) 12 2 2))) 2 (λ e. omega arith)
 
-page-cut : Lists (trialOn 16 96 15) pageCut
+page-cut : Lists (trialOn 16 (ownerOf small) 96 15) pageCut
 unfolding computing pageBegun pageCut
-page-cut = crashed-run (beginning (trialOn 16 96 15) refl) refl (request (trialOn 16 96 15)) refl tt (spoiled [])
+page-cut = crashed-run (beginning (trialOn 16 (ownerOf small) 96 15) refl) refl (request (trialOn 16 (ownerOf small) 96 15)) refl tt (spoiled [])
 
-page-taken : Lists (trialOn 16 96 1000) pageTaken
+page-taken : Lists (trialOn 16 (ownerOf small) 96 1000) pageTaken
 unfolding computing pageBegun pageCut pageTaken
 page-taken =
-    recovery (trialOn 16 96 1000) page-cut (saveOf 5 1 1 ∷ []) (take 16 (image (saveOf 12 2 2)))
-    (shape-by (factsOf (formatOf 16) small) (pageCut .machine .journal) (saveOf 5 1 1 ∷ []) (saveOf 12 2 2) 16 refl) refl page-trimmed
+    recovery (trialOn 16 (ownerOf small) 96 1000) page-cut (saveOf (ownerOf small) 5 1 1 ∷ []) (take 16 (image (formatFor 16 (ownerOf small)) (saveOf (ownerOf small) 12 2 2)))
+    (shape-by (factsOf (formatFor 16 (ownerOf small)) small) (pageCut .machine .journal) (saveOf (ownerOf small) 5 1 1 ∷ []) (saveOf (ownerOf small) 12 2 2) 16 refl) refl refl page-trimmed
 
-pub page-history : History small smallReadings 16 96 0 (Erased 96) (λ w. w ≡ smallSets) pageDone
+pub page-history : History small smallReadings 16 (ownerOf small) 96 0 (Erased 96) (λ w. w ≡ smallSets) pageDone
 unfolding computing pageBegun pageCut pageTaken pageDone
-page-history = runs page-taken refl (request (trialOn 16 96 1000)) refl tt
+page-history = runs page-taken refl (request (trialOn 16 (ownerOf small) 96 1000)) refl tt
 
 -- the first save is filled, of the second one a page is stored, and one page is to be erased; the outputs are those of the byte chip, in fewer steps
-pub page-facts : (take 48 (pageCut .machine .journal) ≡ firstSave ++ replicate 12 0xFF ++ take 16 (image (saveOf 12 2 2)))
+pub page-facts : (take 48 (pageCut .machine .journal) ≡ firstSave ++ replicate 8 0xFF ++ take 16 (image (formatFor 16 (ownerOf small)) (saveOf (ownerOf small) 12 2 2)))
     × (pageTaken .machine .regs .erase ≡ 16)
     × (pageDone .outputs ≡ output 0 (pos 5) ∷ output 1 (pos 12) ∷ output 1 (pos 12) ∷ output 2 (pos 10) ∷ [])
     × (pageDone .machine .regs .write ≡ 96)
@@ -250,8 +252,8 @@ unfolding computing pageBegun pageCut pageTaken pageDone
 page-facts = (refl, refl, refl, refl, refl)
 
 -- demand 3 of it
-pub page-claim : Claim small smallReadings zeros 96 0 (λ w. w ≡ smallSets) 16 pageDone
-page-claim = demand-3 16 small small-plan smallReadings 96 smallSets small-found pageDone page-history
+pub page-claim : Claim small smallReadings zeros 96 0 (λ w. w ≡ smallSets) 16 (ownerOf small) pageDone
+page-claim = demand-3 16 small small-plan (ownerOf small) (inl refl) smallReadings 96 smallSets small-found pageDone page-history
 
 -- ---- a plan that ends
 
@@ -284,7 +286,7 @@ ending-found = record {
 
 -- no readings, and the budget that the claim asks for: 5 + 2 * 60
 abbrev pub endingTrial : Trial
-endingTrial = record { program = ending; words = endingSets; chip = 60; page = 1; readings = []; budget = 125; places = pos 0 ∷ [] }
+endingTrial = record { program = ending; words = endingSets; chip = 60; page = 1; owner = unowned; readings = []; budget = 125; places = pos 0 ∷ [] }
 
 -- after the first recovery, and after the run
 unfoldable pub endingBegun : System
@@ -298,7 +300,7 @@ unfolding computing endingSets endingBegun
 ending-begun = beginning endingTrial refl
 
 -- these calls are a history
-pub ending-history : History ending [] 1 60 0 (Erased 60) (λ w. w ≡ endingSets) endingDone
+pub ending-history : History ending [] 1 unowned 60 0 (Erased 60) (λ w. w ≡ endingSets) endingDone
 unfolding computing endingSets endingBegun endingDone
 ending-history = runs ending-begun refl (request endingTrial) refl tt
 
@@ -324,8 +326,8 @@ ending-chain = one (request endingTrial) 125 (refl, record { steps = omega arith
 
 -- demand 3 of both systems
 module _ (s : System) (h : Lists endingTrial s) where
-  ending-claim : Claim ending [] zeros 60 0 (λ w. w ≡ endingSets) 1 s
-  ending-claim = demand-3 1 ending ending-plan [] 60 endingSets ending-found s h
+  ending-claim : Claim ending [] zeros 60 0 (λ w. w ≡ endingSets) 1 unowned s
+  ending-claim = demand-3 1 ending ending-plan unowned (inr refl) [] 60 endingSets ending-found s h
 
 -- so what the claim says of a stop is said of this one: `stopped`, `all`, `steps`, `stops`
 pub ending-uses : ¬ (refAt ending [] zeros (endingDone .tally .highest) .stop ≡ 0)
@@ -373,7 +375,7 @@ echo-found = record {
 
 -- a chip of 20 bytes, which one save fills, and a run with the budget 1,000 that is lent both readings and one place
 abbrev pub echoTrial : Trial
-echoTrial = record { program = echo; words = echoSets; chip = 20; page = 1; readings = pos 5 ∷ pos 7 ∷ []; budget = 1000; places = pos 0 ∷ [] }
+echoTrial = record { program = echo; words = echoSets; chip = 20; page = 1; owner = unowned; readings = pos 5 ∷ pos 7 ∷ []; budget = 1000; places = pos 0 ∷ [] }
 
 abbrev pub echoReadings : List ℤ
 echoReadings = echoTrial .readings
@@ -397,7 +399,7 @@ pub least-facts : let last = outcomeOf echo echoReadings (called echo echoReadin
 unfolding echoBegun
 least-facts = (
   host-chain echo echoReadings 20 echoSets 1 7 46 echoBegun,
-  host-stops echo echoReadings 20 echoSets 1 1 echo-plan echo-found 7 46 echoBegun echo-begun refl (λ e. omega (arith, echo-stop)) (omega arith),
+  host-stops echo echoReadings 20 echoSets 1 1 unowned (inr refl) echo-plan echo-found 7 46 echoBegun echo-begun refl (λ e. omega (arith, echo-stop)) (omega arith),
 )
 
 -- three runs with the budget 1,000 and one place each, and a refused call behind the first
@@ -440,7 +442,7 @@ echo-chain =
 pub echo-uses : Stopped ended ≡ Stopped (refAt echo echoReadings zeros 7 .stop)
 unfolding echoBegun
 echo-uses =
-    demand-3 1 echo echo-plan echoReadings 20 echoSets echo-found echoBegun echo-begun
+    demand-3 1 echo echo-plan unowned (inr refl) echoReadings 20 echoSets echo-found echoBegun echo-begun
     .stops refl 7 (λ e. omega (arith, echo-stop)) 1002 (Stopped ended) echoDone echo-chain (omega arith)
 
 -- ---- a plan for a host in C

@@ -13,7 +13,7 @@ use Rattle.cellset.proofs.Bits.{le-or-lt}
 use Rattle.run.specs.declared.Ended.the-variants.{Stopped}
 use Rattle.restart.specs.Reference.{zeros, refAt}
 use Rattle.restart.specs.History.{System, Request, outcomeOf, ran, History}
-use Rattle.restart.specs.Claim.{Plan, Found, Suffices, Chain, one, more, Erased}
+use Rattle.restart.specs.Claim.{Plan, Found, Suffices, Chain, one, more, Erased, Names}
 use Rattle.restart.proofs.Theorem.{demand-3}
 
 -- of the readings from the i-th on, j are lent, or all that remain
@@ -58,7 +58,7 @@ module _ (p : List ℕ) (ρ : List ℤ) (n : ℕ) (words : List ℕ) (j : ℕ) w
       (more (host-chain k i s) host j (equipped k (called (suc i) s)))
 
   -- SO THEY REACH THE STOP
-  pub host-stops : (page : ℕ) → Plan p → Found p words → (k i : ℕ) (s : System) → History p ρ page n 0 (Erased n) (λ w. w ≡ words) s → s .good ≡ true
+  pub host-stops : (page owner : ℕ) → Names p owner → Plan p → Found p words → (k i : ℕ) (s : System) → History p ρ page owner n 0 (Erased n) (λ w. w ≡ words) s → s .good ≡ true
       → ¬ (refAt p ρ zeros k .stop ≡ 0) → k + 2 * n ≤ suc i * j
       → outcomeOf p ρ (called i s .machine) host .ended ≡ Stopped (refAt p ρ zeros k .stop)
-  host-stops page plan found k i s h g z l = demand-3 page p plan ρ n words found s h .stops g k z (suc i * j) _ _ (host-chain k i s) l
+  host-stops page owner names plan found k i s h g z l = demand-3 page p plan owner names ρ n words found s h .stops g k z (suc i * j) _ _ (host-chain k i s) l

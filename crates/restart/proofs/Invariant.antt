@@ -15,14 +15,14 @@ use Rattle.marks.specs.declared.Mark.{Mark}
 use Rattle.marks.specs.declared.Mark.the-variants.{Include, Pending, Kept, Dead}
 use Rattle.analysis.specs.Paths.{Live, Region}
 use Rattle.analysis.proofs.Safety.{Inside}
-use Rattle.journal.specs.Format.{Checkpoint, image, images, formatOf}
+use Rattle.journal.specs.Format.{Checkpoint, image, images}
 use Rattle.journal.specs.Reading.{factsOf, first, lastOf, savedValue, Sound}
 use Rattle.journal.specs.Shape.{Shape}
-use Rattle.step.specs.State.{Machine, checkpointAt}
+use Rattle.step.specs.State.{Machine, formatAt, checkpointAt}
 use Rattle.step.specs.Ready.{Good}
 use Rattle.restart.specs.Reference.{Frame, frameOf, refAt}
 use Rattle.restart.specs.History.{Tally}
-use Rattle.restart.specs.Claim.{Resumes}
+use Rattle.restart.specs.Claim.{Resumes, Owned}
 
 -- ---- layer A
 
@@ -67,12 +67,12 @@ pub record Held (p : List ℕ) (ρ : List ℤ) (f₀ : Frame) (m : Machine) (js 
 
 -- the journal has the checkpoints js, and behind them torn bytes that are to be erased, or the first k bytes of the checkpoint that is being stored
 pub data Phase (p : List ℕ) (m : Machine) (js : List Checkpoint) : Type 0 where
-  idle : (q : List ℕ) → Shape (factsOf (formatOf (m .regs .page)) p) (m .journal) js q → m .regs .saving ≡ 0
-      → m .regs .write ≡ length (images (formatOf (m .regs .page)) js) → length q ≤ m .regs .erase
+  idle : (q : List ℕ) → Shape (factsOf (formatAt (m .regs)) p) (m .journal) js q → m .regs .saving ≡ 0
+      → m .regs .write ≡ length (images (formatAt (m .regs)) js) → length q ≤ m .regs .erase
       → Phase p m js
-  saving : (k : ℕ) → Shape (factsOf (formatOf (m .regs .page)) p) (m .journal) js (take k (image (checkpointAt p m)))
-      → Sound (factsOf (formatOf (m .regs .page)) p) (lastOf first js) (checkpointAt p m)
-      → m .regs .saving ≡ suc k → m .regs .write ≡ length (images (formatOf (m .regs .page)) js) + k → m .regs .erase ≡ 0 → Phase p m js
+  saving : (k : ℕ) → Shape (factsOf (formatAt (m .regs)) p) (m .journal) js (take k (image (formatAt (m .regs)) (checkpointAt p m)))
+      → Sound (factsOf (formatAt (m .regs)) p) (lastOf first js) (checkpointAt p m)
+      → m .regs .saving ≡ suc k → m .regs .write ≡ length (images (formatAt (m .regs)) js) + k → m .regs .erase ≡ 0 → Phase p m js
 
 -- ---- both
 
@@ -87,6 +87,7 @@ pub record Inv (p : List ℕ) (ρ : List ℤ) (f₀ : Frame) (n : ℕ) (m : Mach
   pub saves : List Checkpoint
   pub held : Held p ρ f₀ m saves (t .retired) (t .committed)
   pub phase : Phase p m saves
+  pub owned : Owned (m .regs .owner) saves
   pub good : Good p m
   pub small : Small m
   pub size : length (m .journal) ≡ n

@@ -331,9 +331,9 @@ module _ (p : List ℕ) (ρ : List ℤ) (f₀ : Frame) (plan : Plan p) where
 
   -- recovery takes the checkpoints up
   pub held-restored : {G : Format} (words : List ℕ) → Safe p words → (js : List Checkpoint) (b : ℕ) → Rising (factsOf G p) first js → Resumes p js (refAt p ρ f₀ b)
-      → (values : List ℕ) → length values ≡ 256 → ((c : ℕ) → c < 256 → getD values c 0 ≡ savedValue c js 0) → (end torn page : ℕ) (l : List ℕ)
-      → Held p ρ f₀ (machineOf (regsOf end torn (lastOf first js) page) values (marksBy (envOf p words) (lastOf first js .exclude)) l) js b b
-  held-restored words s js b r h values size e end torn page l =
+      → (values : List ℕ) → length values ≡ 256 → ((c : ℕ) → c < 256 → getD values c 0 ≡ savedValue c js 0) → (end torn page owner : ℕ) (l : List ℕ)
+      → Held p ρ f₀ (machineOf (regsOf end torn (lastOf first js) page owner) values (marksBy (envOf p words) (lastOf first js .exclude)) l) js b b
+  held-restored words s js b r h values size e end torn page owner l =
       let x = lastOf first js .exclude in
       record {
         follows = record {

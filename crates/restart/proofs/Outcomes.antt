@@ -2,7 +2,7 @@
 -- end in FF (`outcome-is`), and each outcome is a state made of the journal's checkpoints (`outcome-made`).
 -- Assumes nothing.
 use Prim.Native.Nat.{ℕ, _≤_, _<_}
-use mathlib.Core.Path.{_≡_, refl, _∙_, ap}
+use mathlib.Core.Path.{_≡_, refl, sym, _∙_, ap}
 use mathlib.Core.Bool.{true, false, cond}
 use mathlib.Core.List.{List}
 use native.Mathlib.Nat.{zero-add}
@@ -12,8 +12,8 @@ use lib.Dec.{eqb}
 use borrow.Author.Tests.{eqb-true, eqb-false}
 use Rattle.program.proofs.Tests.{bool-cases, clash}
 use Rattle.journal.specs.declared.Scanned.the-variants.{BadLength, Damaged, Found}
-use Rattle.journal.specs.Format.{Checkpoint, formatOf, filledOf, chipLength, images}
-use Rattle.journal.specs.Reading.{Facts, factsOf, first, lastOf, savedValue}
+use Rattle.journal.specs.Format.{Checkpoint, formatFor, filledOf, chipLength, images}
+use Rattle.journal.specs.Reading.{Facts, factsOf, first, lastOf, ownAll, savedValue}
 use Rattle.journal.specs.Answer.{Taken}
 use Rattle.journal.specs.Shape.{Shape}
 use Rattle.journal.proofs.Torn.{Trimmed}
@@ -54,29 +54,29 @@ values-some js =
     record { size = tabulated-length f 0 256; values-are = λ c h. tabulated-at f 0 256 c h ∙ ap f (zero-add c) }
 
 -- what recovery makes of checkpoints, of values, and of as many bytes to erase
-abbrev pub stateOf : Env → (page : ℕ) → List Checkpoint → (torn : ℕ) → (values chip : List ℕ) → Machine
-stateOf e page js torn values chip =
-    machineOf (regsOf (length (images (formatOf page) js)) torn (lastOf first js) page) values (marksBy e (lastOf first js .exclude)) chip
+abbrev pub stateOf : Env → (page owner : ℕ) → List Checkpoint → (torn : ℕ) → (values chip : List ℕ) → Machine
+stateOf e page owner js torn values chip =
+    machineOf (regsOf (length (images (formatFor page owner) js)) torn (lastOf first js) page owner) values (marksBy e (lastOf first js .exclude)) chip
 
 -- the outcome is such a state; the chip has the shape with the torn bytes that were found, no more than q
-pub record Made (e : Env) (page : ℕ) (chip : List ℕ) (js : List Checkpoint) (q : List ℕ) (r : Outcome) : Type 0 where
+pub record Made (e : Env) (page owner : ℕ) (chip : List ℕ) (js : List Checkpoint) (q : List ℕ) (r : Outcome) : Type 0 where
   pub rest : List ℕ
   pub less : length rest ≤ length q
-  pub shape : Shape (factsOf (formatOf page) (e .program)) chip js rest
+  pub shape : Shape (factsOf (formatFor page owner) (e .program)) chip js rest
   pub values : List ℕ
   pub saved : Values js values
-  pub is : r ≡ outcome Restored (stateOf e page js (filledOf page (length rest)) values chip)
+  pub is : r ≡ outcome Restored (stateOf e page owner js (filledOf page (length rest)) values chip)
 
-module _ (e : Env) (page : ℕ) (m : Machine) (js : List Checkpoint) where
+module _ (e : Env) (page owner : ℕ) (m : Machine) (js : List Checkpoint) (own : ownAll owner js ≡ true) where
   abbrev F : Facts
-  F = factsOf (formatOf page) (e .program)
+  F = factsOf (formatFor page owner) (e .program)
 
   -- where the torn bytes do not end in FF, it is so with all of them
   pub outcome-is : (q : List ℕ) → Shape F (m .journal) js q → refusalOf e page (length (m .journal)) ≡ 0 → Trimmed q → (v : List ℕ) → Values js v
-      → Recovers e page m (outcome Restored (stateOf e page js (filledOf page (length q)) v (m .journal)))
+      → Recovers e page owner m (outcome Restored (stateOf e page owner js (filledOf page (length q)) v (m .journal)))
   unfolding recoverOf
   outcome-is q shape accepted t v s =
-      let taken : Taken F (m .journal) (length (images (formatOf page) js)) (filledOf page (length q)) (lastOf first js) v =
+      let taken : Taken F (m .journal) (length (images (formatFor page owner) js)) (filledOf page (length q)) (lastOf first js) true v =
       record {
         saves = js;
         rest = q;
@@ -85,29 +85,32 @@ module _ (e : Env) (page : ℕ) (m : Machine) (js : List Checkpoint) where
         end-is = refl;
         torn-is = refl;
         last-is = refl;
+        own-is = sym own;
         cells = s .size;
         values-are = s .values-are;
       } in
       let chip = accepted-chip e page (length (m .journal)) accepted in
-      reads (chip .0) (Found (length (images (formatOf page) js)) (filledOf page (length q)) (lastOf first js)) v (chip .1, taken) refl
+      reads (chip .0) (Found (length (images (formatFor page owner) js)) (filledOf page (length q)) (lastOf first js) true) v (chip .1, taken) 0
+      (λ z. let y : _≡_ {A = ℕ} 0 1 = cc in absurd (omega arith)) refl
 
   module _ (q : List ℕ) (shape : Shape F (m .journal) js q) (accepted : refusalOf e page (length (m .journal)) ≡ 0) where
     -- there is an outcome
-    pub outcome-some : (r : Outcome) × Recovers e page m r
+    pub outcome-some : (r : Outcome) × Recovers e page owner m r
     outcome-some =
         let t = shape-reads shape .reading in
         (_, outcome-is _ (read-shape shape t .1) accepted (t .trimmed) (valuesOf js) (values-some js))
 
     -- each is accepted, and is such a state
-    pub outcome-made : (r : Outcome) → Recovers e page m r → Made e page (m .journal) js q r
+    pub outcome-made : (r : Outcome) → Recovers e page owner m r → Made e page owner (m .journal) js q r
     unfolding recoverOf
     outcome-made r (refuses n z l is) = absurd (omega (arith, accepted-chip e page (length (m .journal)) accepted .0))
-    outcome-made r (reads z BadLength values s is) = clash _ (accepted-chip e page (length (m .journal)) accepted .1) (s .0)
-    outcome-made r (reads z Damaged values s is) = absurd (not-damaged shape (s .1))
-    outcome-made r (reads z (Found end torn last) values (most, s) is) =
+    outcome-made r (reads z BadLength values s n o is) = clash _ (accepted-chip e page (length (m .journal)) accepted .1) (s .0)
+    outcome-made r (reads z Damaged values s n o is) = absurd (not-damaged shape (s .1))
+    outcome-made r (reads z (Found end torn last own′) values (most, s) n older is) =
         let g = read-shape shape (s .reading) in
-        let x : end ≡ length (images (formatOf page) js) = s .end-is ∙ ap (λ (l : List Checkpoint). length (images (formatOf page) l)) (g .0) in
+        let x : end ≡ length (images (formatFor page owner) js) = s .end-is ∙ ap (λ (l : List Checkpoint). length (images (formatFor page owner) l)) (g .0) in
         let y : last ≡ lastOf first js = s .last-is ∙ ap (lastOf first) (g .0) in
+        let w : own′ ≡ true = s .own-is ∙ ap (ownAll owner) (g .0) ∙ own in
         let t = shape-reads shape in
         let o = one-reading (s .reading) (t .reading) in
         record {
@@ -116,21 +119,23 @@ module _ (e : Env) (page : ℕ) (m : Machine) (js : List Checkpoint) where
           shape = g .1;
           values = values;
           saved = record { size = s .cells; values-are = λ c h. s .values-are c h ∙ ap (λ (l : List Checkpoint). savedValue c l 0) (g .0) };
-          is = is ∙ (λ i. outcome Restored (machineOf (regsOf (x i) (s .torn-is i) (y i) page) values (marksBy e (y i .exclude)) (m .journal)));
+          is = is
+              ∙ (λ i. cond (w i) (outcome Restored (machineOf (regsOf (x i) (s .torn-is i) (y i) page owner) values (marksBy e (y i .exclude)) (m .journal)))
+              (outcome (Refused 16) m));
         }
 
 -- ---- a length that no chip has
 
-module _ (e : Env) (page : ℕ) (m : Machine) (read : recovery.refusalOf e ≡ 0) (other : chipLength page (length (m .journal)) ≡ false) where
+module _ (e : Env) (page owner : ℕ) (m : Machine) (read : recovery.refusalOf e ≡ 0) (other : chipLength page (length (m .journal)) ≡ false) where
   -- there is an outcome
-  pub refused-length : (r : Outcome) × Recovers e page m r
+  pub refused-length : (r : Outcome) × Recovers e page owner m r
   unfolding recoverOf
-  refused-length = (_, reads read BadLength (replicate 256 0) (other, record { cells = length-replicate {A = ℕ} 256 0; values-are = λ c. zeros-at 256 c }) refl)
+  refused-length = (_, reads read BadLength (replicate 256 0) (other, record { cells = length-replicate {A = ℕ} 256 0; values-are = λ c. zeros-at 256 c }) 0 (λ z. let y : _≡_ {A = ℕ} 0 1 = cc in absurd (omega arith)) refl)
 
   -- each is 11
-  pub refused-11 : (r : Outcome) → Recovers e page m r → r .answer ≡ Refused 11
+  pub refused-11 : (r : Outcome) → Recovers e page owner m r → r .answer ≡ Refused 11
   unfolding recoverOf
   refused-11 r (refuses n z l is) = absurd (omega (arith, read))
-  refused-11 r (reads z BadLength values s is) = ap (λ (o : Outcome). o .answer) is
-  refused-11 r (reads z Damaged values s is) = clash _ (s .0) other
-  refused-11 r (reads z (Found end torn last) values s is) = clash _ (s .0) other
+  refused-11 r (reads z BadLength values s n o is) = ap (λ (o : Outcome). o .answer) is
+  refused-11 r (reads z Damaged values s n o is) = clash _ (s .0) other
+  refused-11 r (reads z (Found end torn last own) values s n o is) = clash _ (s .0) other

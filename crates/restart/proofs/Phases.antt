@@ -8,11 +8,11 @@ use lib.ListN.{length, take, drop, replicate, length-append, length-take}
 use lib.Seq.{sets}
 use borrow.Author.Tests.{eq-eqb, ne-eqb}
 use Rattle.execution.specs.Effects.{Effect}
-use Rattle.journal.specs.Format.{Checkpoint, formatOf, image, padded, images}
+use Rattle.journal.specs.Format.{Checkpoint, image, padded, images}
 use Rattle.journal.specs.Reading.{Facts, factsOf, first, lastOf, Sound}
 use Rattle.journal.specs.Shape.{Shape}
 use Rattle.journal.proofs.Storing.{images-snoc, pageAt, stored-page, completed-page, erased}
-use Rattle.step.specs.State.{Env, Machine, checkpointAt, imageAt, sizeAt}
+use Rattle.step.specs.State.{Env, Machine, formatAt, checkpointAt, imageAt, sizeAt}
 use Rattle.step.specs.Step.{erasedOf, storedOf, begun, performed}
 use Rattle.step.specs.Ready.{Good}
 use Rattle.step.proofs.Facts.{sound-facts}
@@ -26,11 +26,11 @@ none-long (x ∷ q) h = absurd (omega arith)
 
 module _ (p : List ℕ) (m : Machine) (js : List Checkpoint) (h : Phase p m js) where
   abbrev F : Facts
-  F = factsOf (formatOf (m .regs .page)) p
+  F = factsOf (formatAt (m .regs)) p
 
   -- the journal has its shape
   pub phase-shape : (q : List ℕ) × Shape F (m .journal) js q
-  phase-shape = elim h [ idle q a s w e ↦ (q, a) | saving k a g s w e ↦ (take k (image (checkpointAt p m)), a) ]
+  phase-shape = elim h [ idle q a s w e ↦ (q, a) | saving k a g s w e ↦ (take k (image (formatAt (m .regs)) (checkpointAt p m)), a) ]
 
   -- the highest torn page is erased
   pub phase-erased : Good p m → 0 < m .regs .erase → Phase p (erasedOf m) js
@@ -41,7 +41,7 @@ module _ (p : List ℕ) (m : Machine) (js : List Checkpoint) (h : Phase p m js) 
       elim h [
         | idle q a s w e ↦
             let k = m .regs .erase - m .regs .page in
-            let i : length (images (formatOf (m .regs .page)) js) + k ≡ m .regs .write + k = omega arith in
+            let i : length (images (formatAt (m .regs)) js) + k ≡ m .regs .write + k = omega arith in
             let b = erased a k (m .regs .page) (omega (arith, n)) (omega (arith, f .fits, n, w)) in
             idle (take k q) (subst (λ (x : ℕ). Shape F (sets (m .journal) x (replicate (m .regs .page) 0xFF)) js (take k q)) i b) s w
             (omega (arith, length-take k q))
@@ -49,13 +49,13 @@ module _ (p : List ℕ) (m : Machine) (js : List Checkpoint) (h : Phase p m js) 
       ]
 
   -- where a page is stored
-  page-at : (k : ℕ) → m .regs .write ≡ length (images (formatOf (m .regs .page)) js) + k → m .regs .saving ≡ suc k
-      → sets (m .journal) (length (images (formatOf (m .regs .page)) js) + k) (pageAt (formatOf (m .regs .page)) (checkpointAt p m) k)
+  page-at : (k : ℕ) → m .regs .write ≡ length (images (formatAt (m .regs)) js) + k → m .regs .saving ≡ suc k
+      → sets (m .journal) (length (images (formatAt (m .regs)) js) + k) (pageAt (formatAt (m .regs)) (checkpointAt p m) k)
       ≡ sets (m .journal) (m .regs .write) (take (m .regs .page) (drop (m .regs .saving - 1) (imageAt p m)))
   unfolding imageAt
   page-at k w n =
       let z : k ≡ m .regs .saving - 1 = omega arith in
-      λ i. sets (m .journal) (sym w i) (take (m .regs .page) (drop (z i) (padded (formatOf (m .regs .page)) (checkpointAt p m))))
+      λ i. sets (m .journal) (sym w i) (take (m .regs .page) (drop (z i) (padded (formatAt (m .regs)) (checkpointAt p m))))
 
   -- a page of a save, not the last
   pub phase-stored : Good p m → 0 < m .regs .saving → ¬ (m .regs .saving - 1 + m .regs .page ≡ sizeAt p m) → Phase p (storedOf p m) js
@@ -69,7 +69,7 @@ module _ (p : List ℕ) (m : Machine) (js : List Checkpoint) (h : Phase p m js) 
         | saving k a c n w e ↦
             let z : m .regs .saving - 1 ≡ k = omega arith in
             let b = stored-page (checkpointAt p m) k (o .paged .some) (rw z at (f .whole)) a c (omega (arith, left)) (omega (arith, f .room, left)) in
-            saving (k + m .regs .page) (subst (λ (x : List ℕ). Shape F x js (take (k + m .regs .page) (image (checkpointAt p m)))) (page-at k w n) b) c
+            saving (k + m .regs .page) (subst (λ (x : List ℕ). Shape F x js (take (k + m .regs .page) (image (formatAt (m .regs)) (checkpointAt p m)))) (page-at k w n) b) c
             (omega arith) (omega arith) e
       ])
 
@@ -78,7 +78,7 @@ module _ (p : List ℕ) (m : Machine) (js : List Checkpoint) (h : Phase p m js) 
       → Phase p (storedOf p m) (js ++ (checkpointAt p m ∷ []))
   unfolding storedOf sizeAt imageAt
   phase-completed g s l =
-      let G = formatOf (m .regs .page) in
+      let G = formatAt (m .regs) in
       let o = sound-facts (g .sound) in
       let f = o .saves s in
       let i = ap length (images-snoc G js (checkpointAt p m)) ∙ length-append (images G js) (padded G (checkpointAt p m)) in

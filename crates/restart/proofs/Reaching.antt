@@ -129,11 +129,11 @@ pub data Reached (stop : ℕ) (j : ℕ) (x : Ended) (steps : ℕ) (m : Machine) 
   stops : x ≡ Stopped stop → ¬ (m .regs .stop ≡ 0) → Reached stop j x steps m
   runs-on : j ≤ steps → m .regs .stop ≡ 0 → Reached stop j x steps m
 
-module _ (p : List ℕ) (ρ : List ℤ) (f₀ : Frame) (plan : Plan p) (page n t₀ : ℕ) (Words : List ℕ → Type 0) (safe : (w : List ℕ) → Words w → Safe p w) (k : ℕ)
+module _ (p : List ℕ) (ρ : List ℤ) (f₀ : Frame) (plan : Plan p) (page owner n t₀ : ℕ) (Words : List ℕ → Type 0) (safe : (w : List ℕ) → Words w → Safe p w) (k : ℕ)
     (end : ¬ (refAt p ρ f₀ k .stop ≡ 0)) where
-  module _ (s : System) (h : Upheld p ρ f₀ page n t₀ s) (good : s .good ≡ true) (r : Request) (j : ℕ) (enough : Suffices p ρ f₀ n t₀ Words k s r j) where
+  module _ (s : System) (h : Upheld p ρ f₀ page owner n t₀ s) (good : s .good ≡ true) (r : Request) (j : ℕ) (enough : Suffices p ρ f₀ n t₀ Words k s r j) where
     abbrev X : Ran p ρ f₀ n s r
-    X = the-run p ρ f₀ plan page n t₀ s h good r (safe (r .words) (enough .0))
+    X = the-run p ρ f₀ plan page owner n t₀ s h good r (safe (r .words) (enough .0))
 
     -- the reference run where it ends
     abbrev T : ℕ
@@ -196,7 +196,7 @@ module _ (p : List ℕ) (ρ : List ℤ) (f₀ : Frame) (plan : Plan p) (page n t
 
   -- after the runs of a chain from s: a good system, and the last answered the stop, or all the steps that they were equipped for were made
   record After (s : System) (j : ℕ) (x : Ended) (s′ : System) : Type 0 where
-    pub upheld : Upheld p ρ f₀ page n t₀ s′
+    pub upheld : Upheld p ρ f₀ page owner n t₀ s′
     pub good : s′ .good ≡ true
     pub rises : s .tally .retired ≤ s′ .tally .retired
     pub reached : Reached (refAt p ρ f₀ k .stop) (s .steps + j) x (s′ .steps) (s′ .machine)
@@ -207,21 +207,21 @@ module _ (p : List ℕ) (ρ : List ℤ) (f₀ : Frame) (plan : Plan p) (page n t
   added a b (runs-on e z) = runs-on (omega (arith, e)) z
 
   -- behind a stop the next run answers it too
-  behind : (s : System) → Upheld p ρ f₀ page n t₀ s → s .good ≡ true → ¬ (s .machine .regs .stop ≡ 0) → (s′ : System) → Upheld p ρ f₀ page n t₀ s′ → s′ .good ≡ true
+  behind : (s : System) → Upheld p ρ f₀ page owner n t₀ s → s .good ≡ true → ¬ (s .machine .regs .stop ≡ 0) → (s′ : System) → Upheld p ρ f₀ page owner n t₀ s′ → s′ .good ≡ true
       → s .tally .retired ≤ s′ .tally .retired → ¬ (s′ .machine .regs .stop ≡ 0)
   behind s h g z s′ h′ g′ l e =
       let a = h .inv g .held .follows .stop in
       let b = h′ .inv g′ .held .follows .stop in
       omega (arith, l, runs-before p ρ f₀ (s′ .tally .retired) (s .tally .retired) (sym b ∙ e) (λ u. z (a ∙ u)))
 
-  after-one : (s : System) → Upheld p ρ f₀ page n t₀ s → s .good ≡ true → (r : Request) (j : ℕ) → Suffices p ρ f₀ n t₀ Words k s r j
+  after-one : (s : System) → Upheld p ρ f₀ page owner n t₀ s → s .good ≡ true → (r : Request) (j : ℕ) → Suffices p ρ f₀ n t₀ Words k s r j
       → After s j (outcomeOf p ρ (s .machine) r .ended) (ran p ρ s r)
   unfolding ran
   after-one s h g r j e =
       record {
-        upheld = upheld-run p ρ f₀ plan page n t₀ s h g r (safe (r .words) (e .0));
+        upheld = upheld-run p ρ f₀ plan page owner n t₀ s h g r (safe (r .words) (e .0));
         good = g;
-        rises = the-run p ρ f₀ plan page n t₀ s h g r (safe (r .words) (e .0)) .standing .rises;
+        rises = the-run p ρ f₀ plan page owner n t₀ s h g r (safe (r .words) (e .0)) .standing .rises;
         reached = added (s .steps) j (reached s h g r j e);
       }
 
@@ -238,14 +238,14 @@ module _ (p : List ℕ) (ρ : List ℤ) (f₀ : Frame) (plan : Plan p) (page n t
       both c (runs-on v w) (runs-on q z) = runs-on (omega (arith, v, q)) z
       both c (stops v w) (runs-on q z) = absurd (behind s′ (a .upheld) (a .good) w (ran p ρ s′ r) (c .upheld) (c .good) (c .rises) z)
 
-  after : {s : System} {j : ℕ} {x : Ended} {s′ : System} → Upheld p ρ f₀ page n t₀ s → s .good ≡ true → Chain p ρ f₀ n t₀ Words k s j x s′ → After s j x s′
+  after : {s : System} {j : ℕ} {x : Ended} {s′ : System} → Upheld p ρ f₀ page owner n t₀ s → s .good ≡ true → Chain p ρ f₀ n t₀ Words k s j x s′ → After s j x s′
   after {s} h g (one r j e) = after-one s h g r j e
   after {s} h g (more {i} {x} {s′} c r j e) = after-more s i x s′ (after h g c) r j e
-  after {s} {j} {x} h g (beside-recovery {s′ = s′} c e other l r y z) = subst (After s j x) (sym (recovery-refused s′ e other l r y z)) (after h g c)
+  after {s} {j} {x} h g (beside-recovery {s′ = s′} c e other whose l r y z) = subst (After s j x) (sym (recovery-refused s′ e other whose l r y z)) (after h g c)
   after {s} {j} {x} h g (beside-run {s′ = s′} c e l ρ′ budget outs z) = subst (After s j x) (sym (run-refused s′ e l ρ′ budget outs z)) (after h g c)
 
   -- A CHAIN THAT IS EQUIPPED FOR ENOUGH STEPS ENDS AT THE STOP
-  pub chain-stops : {s : System} {j : ℕ} {x : Ended} {s′ : System} → Upheld p ρ f₀ page n t₀ s → s .good ≡ true → Chain p ρ f₀ n t₀ Words k s j x s′
+  pub chain-stops : {s : System} {j : ℕ} {x : Ended} {s′ : System} → Upheld p ρ f₀ page owner n t₀ s → s .good ≡ true → Chain p ρ f₀ n t₀ Words k s j x s′
       → k + 2 * n ≤ j → x ≡ Stopped (refAt p ρ f₀ k .stop)
   chain-stops {s} {j} {x} {s′} h g c l =
       let a = after h g c in

@@ -50,11 +50,11 @@ refused-with e ρ budget m outs h =
     (λ b. rw b)
 
 -- A REFUSED RECOVERY
-pub recovery-refused : (s : System) (e : Env) (other : ℕ) (l : Lent) (r : recovery.Outcome) → Recovers e other (given l (s .machine)) r → ¬ (r .answer ≡ recovered.Restored)
+pub recovery-refused : (s : System) (e : Env) (other whose : ℕ) (l : Lent) (r : recovery.Outcome) → Recovers e other whose (given l (s .machine)) r → ¬ (r .answer ≡ recovered.Restored)
     → refused s l r ≡ s
-recovery-refused s e other l r x z =
+recovery-refused s e other whose l r x z =
     let m : back l (s .machine) (r .machine) ≡ s .machine =
-    ap (back l (s .machine)) (refusal-alters-nothing e other (given l (s .machine)) r x z) ∙ back-same l (s .machine) in
+    ap (back l (s .machine)) (refusal-alters-nothing e other whose (given l (s .machine)) r x z) ∙ back-same l (s .machine) in
     λ i. record { machine = m i; good = s .good; tally = s .tally; outputs = s .outputs; steps = s .steps }
 
 -- A REFUSED RUN

@@ -2,7 +2,7 @@
 -- Assumes nothing.
 use Prim.Native.Nat.{ℕ, _+_, _-_, _*_, _^_, _≤_, _<_}
 use mathlib.Core.Path.{_≡_, refl, sym, _∙_, ap, subst}
-use mathlib.Core.Bool.{true}
+use mathlib.Core.Bool.{true, false}
 use mathlib.Core.List.{List}
 use mathlib.Core.Logic.{⊎-elim}
 use native.Mathlib.Omega.{arith}
@@ -13,18 +13,18 @@ use borrow.Author.Tests.{le-ltb}
 use Rattle.cellset.proofs.Bits.{le-or-lt}
 use Rattle.instruction.specs.Bytes.{cellsOf}
 use Rattle.program.specs.Places.{excludeNumber}
-use Rattle.program.proofs.Tests.{bool-cases}
+use Rattle.program.proofs.Tests.{bool-cases, clash}
 use Rattle.marks.specs.Marks.{recoveredMarks}
 use Rattle.marks.proofs.Laws.{recovered-out, recovered-length, recovered-small}
 use Rattle.journal.specs.declared.Commit.{Commit}
 use Rattle.journal.specs.declared.Scanned.the-variants.{BadLength, Damaged, Found}
-use Rattle.journal.specs.Format.{Checkpoint, formatOf, filledOf, chipLength, images}
-use Rattle.journal.specs.Reading.{Facts, factsOf, first, Rising, lastOf, savedValue}
+use Rattle.journal.specs.Format.{Checkpoint, formatFor, filledOf, chipLength, images}
+use Rattle.journal.specs.Reading.{Facts, factsOf, first, Rising, lastOf, ownAll, savedValue}
 use Rattle.journal.specs.Shape.{Shape}
 use Rattle.journal.proofs.Paging.{ChipLength, chip-length, whole-sub, fill-whole, fill-least}
 use Rattle.journal.proofs.Decoding.{images-whole}
 use Rattle.journal.proofs.Storing.{shape-length}
-use Rattle.journal.proofs.Back.{not-damaged}
+use Rattle.journal.proofs.Back.{read-shape, not-damaged}
 use Rattle.step.specs.State.{envOf, Machine}
 use Rattle.step.specs.Ready.{Good}
 use Rattle.step.proofs.Facts.{facts-sound, zero-from, marks-from}
@@ -34,7 +34,7 @@ use Rattle.recovery.specs.declared.Recovered.the-variants.{Restored, Refused}
 use Rattle.recovery.proofs.Laws.{restored-apart, restored-size}
 use Rattle.restart.specs.Reference.{Frame, refAt}
 use Rattle.restart.specs.History.{Tally, setBack}
-use Rattle.restart.specs.Claim.{Plan, Safe, Resumes}
+use Rattle.restart.specs.Claim.{Plan, Safe, Resumes, Owned}
 use Rattle.restart.proofs.Lists.{included-zero, included-length}
 use Rattle.restart.proofs.Outcomes as outcomes
 use Rattle.restart.proofs.Outcomes.{refusalOf, Values, stateOf, outcome-made}
@@ -90,10 +90,10 @@ saved-out c h r = saved-has c (λ (v : ℕ). v ≡ 0) (λ s cell value e. absurd
 
 -- ---- the state
 
-module _ (p words : List ℕ) (plan : Plan p) (safe : Safe p words) (page : ℕ) (chip : List ℕ) (js : List Checkpoint) (q : List ℕ)
-    (shape : Shape (factsOf (formatOf page) p) chip js q) (values : List ℕ) (saved : Values js values) where
+module _ (p words : List ℕ) (plan : Plan p) (safe : Safe p words) (page owner : ℕ) (chip : List ℕ) (js : List Checkpoint) (q : List ℕ)
+    (shape : Shape (factsOf (formatFor page owner) p) chip js q) (owned : Owned owner js) (values : List ℕ) (saved : Values js values) where
   abbrev state : Machine
-  state = stateOf (envOf p words) page js (filledOf page (length q)) values chip
+  state = stateOf (envOf p words) page owner js (filledOf page (length q)) values chip
 
   -- values and counts are small
   state-small : Small state
@@ -125,7 +125,7 @@ module _ (p words : List ℕ) (plan : Plan p) (safe : Safe p words) (page : ℕ)
               paged = record {
                 some = w .some;
                 few = w .few;
-                write = images-whole (formatOf page) (w .some) js;
+                write = images-whole (formatFor page owner) (w .some) js;
                 erase = fill-whole page (length q) (w .some);
               };
               saves = λ s. absurd (omega arith);
@@ -142,8 +142,9 @@ module _ (p words : List ℕ) (plan : Plan p) (safe : Safe p words) (page : ℕ)
   state-inv ρ f₀ n t h c l w = record {
     saves = js;
     held =
-        held-restored p ρ f₀ plan words safe js (t .committed) (shape .rising) h values (saved .size) (saved .values-are) (length (images (formatOf page) js)) (filledOf page (length q)) page chip;
+        held-restored p ρ f₀ plan words safe js (t .committed) (shape .rising) h values (saved .size) (saved .values-are) (length (images (formatFor page owner) js)) (filledOf page (length q)) page owner chip;
     phase = idle q shape refl refl (omega arith);
+    owned = owned;
     good = state-good w;
     small = state-small;
     size = l;
@@ -154,8 +155,8 @@ module _ (p words : List ℕ) (plan : Plan p) (safe : Safe p words) (page : ℕ)
 
 -- ---- the outcome
 
-module _ (p words : List ℕ) (plan : Plan p) (safe : Safe p words) (page : ℕ) (m : Machine) (js : List Checkpoint) (q : List ℕ)
-    (shape : Shape (factsOf (formatOf page) p) (m .journal) js q) where
+module _ (p words : List ℕ) (plan : Plan p) (safe : Safe p words) (page owner : ℕ) (m : Machine) (js : List Checkpoint) (q : List ℕ)
+    (shape : Shape (factsOf (formatFor page owner) p) (m .journal) js q) (owned : Owned owner js) where
   -- the journal is read
   read : recovery.refusalOf (envOf p words) ≡ 0
   unfolding recovery.refusalOf
@@ -166,29 +167,31 @@ module _ (p words : List ℕ) (plan : Plan p) (safe : Safe p words) (page : ℕ)
   readable h = rw (read, h)
 
   -- there is an outcome
-  pub outcome-some : chipLength page (length (m .journal)) ≡ true → (r : Outcome) × Recovers (envOf p words) page m r
-  outcome-some h = outcomes.outcome-some (envOf p words) page m js q shape (readable h)
+  pub outcome-some : chipLength page (length (m .journal)) ≡ true → (r : Outcome) × Recovers (envOf p words) page owner m r
+  outcome-some h = outcomes.outcome-some (envOf p words) page owner m js (owned .all) q shape (readable h)
 
   -- each is accepted
-  pub outcome-restored : chipLength page (length (m .journal)) ≡ true → (r : Outcome) → Recovers (envOf p words) page m r → r .answer ≡ Restored
-  outcome-restored h r x = ap (λ (o : Outcome). o .answer) (outcome-made (envOf p words) page m js q shape (readable h) r x .is)
+  pub outcome-restored : chipLength page (length (m .journal)) ≡ true → (r : Outcome) → Recovers (envOf p words) page owner m r → r .answer ≡ Restored
+  outcome-restored h r x = ap (λ (o : Outcome). o .answer) (outcome-made (envOf p words) page owner m js (owned .all) q shape (readable h) r x .is)
 
-  -- and on no length is the journal damaged
-  pub outcome-sound : (r : Outcome) → Recovers (envOf p words) page m r → ¬ (r .answer ≡ Refused 12)
+  -- and on no length is the journal damaged, or one with marks that name another owner
+  pub outcome-sound : (r : Outcome) → Recovers (envOf p words) page owner m r → (k : ℕ) → 12 ≤ k → ¬ (r .answer ≡ Refused k)
   unfolding recoverOf
-  outcome-sound r (Recovers.refuses n z l e) d = omega (arith, read)
-  outcome-sound r (Recovers.reads z BadLength values s e) d =
-      let k : Refused 11 ≡ Refused 12 = sym (ap (λ (o : Outcome). o .answer) e) ∙ d in
-      let x : _≡_ {A = ℕ} 11 12 = cc in
+  outcome-sound r (Recovers.refuses n z l e) k h d = omega (arith, read)
+  outcome-sound r (Recovers.reads z BadLength values s n o e) k h d =
+      let y : Refused 11 ≡ Refused k = sym (ap (λ (o : Outcome). o .answer) e) ∙ d in
+      let x : 11 ≡ k = cc in
       omega arith
-  outcome-sound r (Recovers.reads z Damaged values s e) d = not-damaged shape (s .1)
-  outcome-sound r (Recovers.reads z (Found end torn last) values s e) d = restored-apart (ap (λ (o : Outcome). o .answer) e) d
+  outcome-sound r (Recovers.reads z Damaged values s n o e) k h d = not-damaged shape (s .1)
+  outcome-sound r (Recovers.reads z (Found end torn last true) values s n o e) k h d = restored-apart (ap (λ (o : Outcome). o .answer) e) d
+  outcome-sound r (Recovers.reads z (Found end torn last false) values s n o e) k h d =
+      clash _ (ap (ownAll owner) (read-shape shape (s .1 .reading) .0) ∙ owned .all) (sym (s .1 .own-is))
 
   -- an accepted one is at the tally of the last whole checkpoint
   pub restored-inv : (ρ : List ℤ) (f₀ : Frame) (n : ℕ) (t : Tally) → Resumes p js (refAt p ρ f₀ (t .committed)) → t .committed ≤ t .highest
-      → length (m .journal) ≡ n → (r : Outcome) → Recovers (envOf p words) page m r → r .answer ≡ Restored → Inv p ρ f₀ n (r .machine) (setBack t) 0
+      → length (m .journal) ≡ n → (r : Outcome) → Recovers (envOf p words) page owner m r → r .answer ≡ Restored → Inv p ρ f₀ n (r .machine) (setBack t) 0
   restored-inv ρ f₀ n t h c l r x a =
-      let size = restored-size (envOf p words) page m r x a in
-      let g = outcome-made (envOf p words) page m js q shape (readable size) r x in
+      let size = restored-size (envOf p words) page owner m r x a in
+      let g = outcome-made (envOf p words) page owner m js (owned .all) q shape (readable size) r x in
       subst (λ (o : Outcome). Inv p ρ f₀ n (o .machine) (setBack t) 0) (sym (g .is))
-      (state-inv p words plan safe page (m .journal) js (g .rest) (g .shape) (g .values) (g .saved) ρ f₀ n t h c l (chip-length _ _ size))
+      (state-inv p words plan safe page owner (m .journal) js (g .rest) (g .shape) owned (g .values) (g .saved) ρ f₀ n t h c l (chip-length _ _ size))

@@ -18,8 +18,8 @@ use Rattle.analysis.proofs.Table as analysis
 use Rattle.analysis.proofs.Table.{eachBelow, below-at}
 use Rattle.marks.specs.Marks.{byteOf, markOf, excluded}
 use Rattle.marks.proofs.Laws.{mark-byte}
-use Rattle.journal.specs.Format.{Checkpoint, formatOf, filledOf, chipLength, image}
-use Rattle.journal.specs.Reading.{factsOf, first}
+use Rattle.journal.specs.Format.{Checkpoint, formatFor, filledOf, chipLength, image}
+use Rattle.journal.specs.Reading.{factsOf, first, ownAll}
 use Rattle.journal.specs.Shape.{Shape}
 use Rattle.step.specs.State.{Env, Machine, machineOf, checkpointAt}
 use Rattle.run.specs.Run as run
@@ -52,42 +52,43 @@ tornOf m = m .regs .saving - 1
 
 -- recovery with the chip of a machine that was cut is accepted; the chip has the checkpoints that are read off it and the torn bytes of the one that m had begun; and what
 -- recovery leaves passes the test, however many torn bytes it finds, since it takes those that end in FF for erased
-abbrev recoveryTests : Env → (page : ℕ) → Machine → (Machine → Bool) → List Bool
-recoveryTests e page m test =
-    let js = savesIn page (m .journal) in
+abbrev recoveryTests : Env → (page owner : ℕ) → Machine → (Machine → Bool) → List Bool
+recoveryTests e page owner m test =
+    let js = savesIn (formatFor page owner) (m .journal) in
     eqb (refusalOf e page (length (m .journal))) 0
-    ∷ shaped (factsOf (formatOf page) (e .program)) (m .journal) js (checkpointAt (e .program) m) (tornOf m)
-    ∷ eachBelow (λ k. test (stateOf e page js (filledOf page k) (valuesOf js) (m .journal))) (suc (tornOf m))
+    ∷ shaped (factsOf (formatFor page owner) (e .program)) (m .journal) js (checkpointAt (e .program) m) (tornOf m)
+    ∷ eachBelow (λ k. test (stateOf e page owner js (filledOf page k) (valuesOf js) (m .journal))) (suc (tornOf m))
+    ∷ ownAll owner js
     ∷ []
 
-recovery-by : (e : Env) (page : ℕ) (m : Machine) (test : Machine → Bool) (Q : Machine → Type 0) → ((m′ : Machine) → test m′ ≡ true → Q m′)
-    → allTrue (recoveryTests e page m test) ≡ true → AfterRecovery e page (m .journal) Q
-recovery-by e page m test Q right h m′ is =
-    let F = factsOf (formatOf page) (e .program) in
+recovery-by : (e : Env) (page owner : ℕ) (m : Machine) (test : Machine → Bool) (Q : Machine → Type 0) → ((m′ : Machine) → test m′ ≡ true → Q m′)
+    → allTrue (recoveryTests e page owner m test) ≡ true → AfterRecovery e page owner (m .journal) Q
+recovery-by e page owner m test Q right h m′ is =
+    let F = factsOf (formatFor page owner) (e .program) in
     let chip = m .journal in
-    let js = savesIn page chip in
+    let js = savesIn (formatFor page owner) chip in
     let s = checkpointAt (e .program) m in
-    let q = take (tornOf m) (image s) in
-    let t = true-at (recoveryTests e page m test) h in
+    let q = take (tornOf m) (image (F .format) s) in
+    let t = true-at (recoveryTests e page owner m test) h in
     let shape = subst (λ (l : List ℕ). Shape F l js q) (sym is) (shape-by F chip js s (tornOf m) (t 1)) in
     let accepted = subst (λ (l : List ℕ). refusalOf e page (length l) ≡ 0) (sym is) (eqb-true _ _ (t 0)) in (
-      outcome-some e page m′ js q shape accepted,
+      outcome-some e page owner m′ js (t 3) q shape accepted,
       λ r x.
-          let o = outcome-made e page m′ js q shape accepted r x in
+          let o = outcome-made e page owner m′ js (t 3) q shape accepted r x in
           let k = length (o .rest) in
           let v = values-same js (o .values) (o .saved) in
-          let i : r ≡ outcome Restored (stateOf e page js (filledOf page k) (valuesOf js) chip) =
-          o .is ∙ (λ i. outcome Restored (stateOf e page js (filledOf page k) (v i) (is i))) in
-          let l : k < suc (tornOf m) = omega (arith, o .less, length-take (tornOf m) (image s)) in
-          let f : ℕ → Bool = λ k. test (stateOf e page js (filledOf page k) (valuesOf js) chip) in
+          let i : r ≡ outcome Restored (stateOf e page owner js (filledOf page k) (valuesOf js) chip) =
+          o .is ∙ (λ i. outcome Restored (stateOf e page owner js (filledOf page k) (v i) (is i))) in
+          let l : k < suc (tornOf m) = omega (arith, o .less, length-take (tornOf m) (image (F .format) s)) in
+          let f : ℕ → Bool = λ k. test (stateOf e page owner js (filledOf page k) (valuesOf js) chip) in
           (ap (λ (o : Outcome). o .answer) i, subst (λ (o : Outcome). Q (o .machine)) (sym i) (right _ (below-at f (suc (tornOf m)) k (t 2) l))),
     )
 
 -- ---- runs
 
 -- a machine with an erased chip, which has begun nothing
-abbrev unwritten : (page n : ℕ) → Machine
-unwritten page n = machineOf (regsOf 0 0 first page) [] [] (replicate n 0xFF)
+abbrev unwritten : (page owner n : ℕ) → Machine
+unwritten page owner n = machineOf (regsOf 0 0 first page owner) [] [] (replicate n 0xFF)
 
 -- from m the run ends with x, and what it leaves passes the test
 abbrev ends : Trial → Ended → (Machine → run.Outcome → Bool) → Machine → Bool
@@ -95,12 +96,12 @@ ends t x test m = sameEnd (ranFrom t m .ended) x && test m (ranFrom t m)
 
 -- so it is after recovery on an erased chip
 abbrev runRight : Trial → Ended → (Machine → run.Outcome → Bool) → Bool
-runRight t x test = allTrue (recoveryTests (envIn t) (t .page) (unwritten (t .page) (t .chip)) (ends t x test))
+runRight t x test = allTrue (recoveryTests (envIn t) (t .page) (t .owner) (unwritten (t .page) (t .owner) (t .chip)) (ends t x test))
 
 run-by : (t : Trial) (x : Ended) (test : Machine → run.Outcome → Bool) (Q : Machine → run.Outcome → Type 0)
     → ((m : Machine) (o : run.Outcome) → test m o ≡ true → Q m o) → runRight t x test ≡ true → AfterRun t x Q
 run-by t x test Q right h =
-    recovery-by (envIn t) (t .page) (unwritten (t .page) (t .chip)) (ends t x test) (λ m. (ranFrom t m .ended ≡ x) × Q m (ranFrom t m))
+    recovery-by (envIn t) (t .page) (t .owner) (unwritten (t .page) (t .owner) (t .chip)) (ends t x test) (λ m. (ranFrom t m .ended ≡ x) × Q m (ranFrom t m))
     (λ m b. let y = and-both (sameEnd (ranFrom t m .ended) x) (test m (ranFrom t m)) b in (end-same _ _ (y .0), right _ _ (y .1)))
     h
 
@@ -121,7 +122,7 @@ rowRight (chipBegins t bytes) = runRight t NoReading (λ m o. sameNumbers (take 
 rowRight (chipIs t bytes) = runRight t NoReading (λ m o. sameNumbers (o .machine .journal) bytes)
 rowRight (cutAfter t n c v i j) =
     runRight t Spent (λ m o.
-    eqb (o .machine .regs .write) n && allTrue (recoveryTests (envIn t) (t .page) (o .machine) (λ m′. allTrue (takesUp c (bitsOf v) i j m′))))
+    eqb (o .machine .regs .write) n && allTrue (recoveryTests (envIn t) (t .page) (t .owner) (o .machine) (λ m′. allTrue (takesUp c (bitsOf v) i j m′))))
 rowRight (chipRefused t n) = eqb (recovery.refusalOf (envIn t)) 0 && (not (chipLength (t .page) (t .chip)) && eqb n 11)
 rowRight (markBecomes k de ro after) = eqb (byteOf (excluded k de ro)) (byteOf after)
 rowRight (effectIs i vs e) = sameEffect (effectOf i (pos 0) 0 0 (cellsIn (map bitsOf vs))) e
@@ -143,15 +144,15 @@ row-right (cutAfter t n c v i j) h =
     let Q : Machine → Type 0 = λ m. (getD (m .cells) c 0 ≡ bitsOf v) × (m .regs .readings ≡ i) × (m .regs .outputs ≡ j) in
     let tells : (m : Machine) → test m ≡ true → Q m =
     λ m b. let y = true-at (takesUp c (bitsOf v) i j m) b in (eqb-true _ _ (y 0), eqb-true _ _ (y 1), eqb-true _ _ (y 2)) in
-    run-by t Spent (λ m o. eqb (o .machine .regs .write) n && allTrue (recoveryTests (envIn t) (t .page) (o .machine) test))
-    (λ m o. (o .machine .regs .write ≡ n) × AfterRecovery (envIn t) (t .page) (o .machine .journal) Q)
-    (λ m o b. let x = and-both _ _ b in (eqb-true _ _ (x .0), recovery-by (envIn t) (t .page) (o .machine) test Q tells (x .1)))
+    run-by t Spent (λ m o. eqb (o .machine .regs .write) n && allTrue (recoveryTests (envIn t) (t .page) (t .owner) (o .machine) test))
+    (λ m o. (o .machine .regs .write ≡ n) × AfterRecovery (envIn t) (t .page) (t .owner) (o .machine .journal) Q)
+    (λ m o b. let x = and-both _ _ b in (eqb-true _ _ (x .0), recovery-by (envIn t) (t .page) (t .owner) (o .machine) test Q tells (x .1)))
     h
 row-right (chipRefused t n) h = λ m is.
     let x = and-both _ _ h in
     let y = and-both (not (chipLength (t .page) (t .chip))) (eqb n 11) (x .1) in
     let long = ap (chipLength (t .page)) (ap length is ∙ length-replicate {A = ℕ} (t .chip) 0xFF) ∙ not-true _ (y .0) in
-    (refused-length (envIn t) (t .page) m (eqb-true _ _ (x .0)) long, λ r d. refused-11 (envIn t) (t .page) m (eqb-true _ _ (x .0)) long r d ∙ ap Refused (sym (eqb-true _ _ (y .1))))
+    (refused-length (envIn t) (t .page) (t .owner) m (eqb-true _ _ (x .0)) long, λ r d. refused-11 (envIn t) (t .page) (t .owner) m (eqb-true _ _ (x .0)) long r d ∙ ap Refused (sym (eqb-true _ _ (y .1))))
 row-right (markBecomes k de ro after) h =
     let e : byteOf (excluded k de ro) ≡ byteOf after = eqb-true _ _ h in
     sym (mark-byte (excluded k de ro)) ∙ ap markOf e ∙ mark-byte after

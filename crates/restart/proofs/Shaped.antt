@@ -13,7 +13,7 @@ use borrow.Author.Tests.{ltb-true, leb-true, eqb-true, eqb-false, not-true}
 use Rattle.word.specs.Bytes.{loadOf}
 use Rattle.program.proofs.Tests.{and-both, or-cases}
 use Rattle.journal.specs.declared.Commit.{Commit}
-use Rattle.journal.specs.Format.{Saved, Checkpoint, fillOf, image, images}
+use Rattle.journal.specs.Format.{Format, ownerWidth, markLead, markLength, Saved, Checkpoint, fillOf, image, images}
 use Rattle.journal.specs.Reading.{Facts, first, Absent, Once, After, Sound, Rising, lastOf}
 use Rattle.journal.specs.Shape.{Cut, Shape}
 use Rattle.restart.proofs.Testing.{allTrue, true-at, sameNumbers, numbers-same}
@@ -57,6 +57,7 @@ afterTests F b c =
     ∷ ltb (c .readings) (2 ^ 32)
     ∷ leb (b .outputs) (c .outputs)
     ∷ ltb (c .outputs) (2 ^ 32)
+    ∷ ltb (c .owner) (256 ^ ownerWidth (F .format))
     ∷ []
 
 after-by : (F : Facts) (b c : Commit) → allTrue (afterTests F b c) ≡ true → After F b c
@@ -71,6 +72,7 @@ after-by F b c h =
       readings-fit = ltb-true _ _ (t 5);
       outputs-rise = leb-true _ _ (t 6);
       outputs-fit = ltb-true _ _ (t 7);
+      owner-fits = ltb-true _ _ (t 8);
     }
 
 -- the checkpoint is sound after the commit b
@@ -99,29 +101,29 @@ rising-by F b (s ∷ js) h =
 abbrev shapeTests : Facts → (chip : List ℕ) → List Checkpoint → Checkpoint → (n : ℕ) → List Bool
 shapeTests F chip js s n =
     rises F first js
-    ∷ (eqb n 0 || (isSound F (lastOf first js) s && ltb n (length (image s))))
-    ∷ sameNumbers chip (images (F .format) js ++ take n (image s) ++ replicate (length chip - length (images (F .format) js) - n) 0xFF)
+    ∷ (eqb n 0 || (isSound F (lastOf first js) s && ltb n (length (image (F .format) s))))
+    ∷ sameNumbers chip (images (F .format) js ++ take n (image (F .format) s) ++ replicate (length chip - length (images (F .format) js) - n) 0xFF)
     ∷ []
 
 abbrev pub shaped : Facts → (chip : List ℕ) → List Checkpoint → Checkpoint → (n : ℕ) → Bool
 shaped F chip js s n = allTrue (shapeTests F chip js s n)
 
-cut-by : (F : Facts) (b : Commit) (s : Checkpoint) (n : ℕ) → (eqb n 0 || (isSound F b s && ltb n (length (image s)))) ≡ true → Cut F b (take n (image s))
+cut-by : (F : Facts) (b : Commit) (s : Checkpoint) (n : ℕ) → (eqb n 0 || (isSound F b s && ltb n (length (image (F .format) s)))) ≡ true → Cut F b (take n (image (F .format) s))
 cut-by F b s n h =
     or-cases (eqb n 0) _ h
     (λ z. let d : n ≡ 0 = eqb-true _ _ z in rw d (inl refl))
     (λ _ t.
     let x = and-both (isSound F b s) _ t in
-    let l : n < length (image s) = ltb-true _ _ (x .1) in
+    let l : n < length (image (F .format) s) = ltb-true _ _ (x .1) in
     inr (record {
       save = s;
       sound = sound-by F b s (x .0);
-      more = drop n (image s);
-      bytes = sym (take-append-drop n (image s));
-      short = omega (arith, l, length-drop n (image s));
+      more = drop n (image (F .format) s);
+      bytes = sym (take-append-drop n (image (F .format) s));
+      short = omega (arith, l, length-drop n (image (F .format) s));
     }))
 
-pub shape-by : (F : Facts) (chip : List ℕ) (js : List Checkpoint) (s : Checkpoint) (n : ℕ) → shaped F chip js s n ≡ true → Shape F chip js (take n (image s))
+pub shape-by : (F : Facts) (chip : List ℕ) (js : List Checkpoint) (s : Checkpoint) (n : ℕ) → shaped F chip js s n ≡ true → Shape F chip js (take n (image (F .format) s))
 shape-by F chip js s n h =
     let t = true-at (shapeTests F chip js s n) h in
     record {
@@ -137,18 +139,18 @@ shape-by F chip js s n h =
 abbrev recordIn : List ℕ → Saved
 recordIn l = record { cell = getD l 1 0; value = loadOf 4 l 2 }
 
-abbrev commitIn : List ℕ → Commit
-commitIn l = record { place = loadOf 2 l 1; exclude = loadOf 2 l 3; readings = loadOf 4 l 5; outputs = loadOf 4 l 9 }
+abbrev commitIn : (width : ℕ) → List ℕ → Commit
+commitIn width l = record { place = loadOf 2 l 1; exclude = loadOf 2 l 3; readings = loadOf 4 l 5; outputs = loadOf 4 l 9; owner = loadOf width l 13 }
 
 -- the checkpoints that they begin with, the first behind the records rs; f bounds the records and commits. `let` leaves a reading that is not taken uncomputed
-unfoldable pub savesFrom : (page f : ℕ) → List Saved → List ℕ → List Checkpoint
-savesFrom page zero rs l = []
-savesFrom page (suc f) rs l =
-    let onward = savesFrom page f (rs ++ recordIn l ∷ []) (drop 6 l) in
-    let next = savesFrom page f [] (drop (14 + fillOf page (6 * length rs + 14)) l) in
+unfoldable pub savesFrom : Format → (f : ℕ) → List Saved → List ℕ → List Checkpoint
+savesFrom G zero rs l = []
+savesFrom G (suc f) rs l =
+    let onward = savesFrom G f (rs ++ recordIn l ∷ []) (drop 6 l) in
+    let next = savesFrom G f [] (drop (markLength G + fillOf (G .page) (6 * length rs + markLength G)) l) in
     cond (eqb (getD l 0 0) 0xA1) onward
-    (cond (eqb (getD l 0 0) 0xA2 && eqb (getD l 13 0) 0x5A) (record { records = rs; commit = commitIn l } ∷ next)
+    (cond (eqb (getD l 0 0) (markLead G) && eqb (getD l (markLength G - 1) 0) 0x5A) (record { records = rs; commit = commitIn (ownerWidth G) l } ∷ next)
     [])
 
-abbrev pub savesIn : (page : ℕ) → List ℕ → List Checkpoint
-savesIn page chip = savesFrom page (length chip) [] chip
+abbrev pub savesIn : Format → List ℕ → List Checkpoint
+savesIn G chip = savesFrom G (length chip) [] chip

@@ -9,7 +9,7 @@ use lib.IntN.{ℤ}
 use lib.ListN.{length, take}
 use lib.Seq.{length-take-le}
 use Rattle.program.proofs.Tests.{clash}
-use Rattle.journal.specs.Format.{Checkpoint, formatOf}
+use Rattle.journal.specs.Format.{Format, Checkpoint, formatFor}
 use Rattle.journal.specs.Reading.{factsOf}
 use Rattle.journal.specs.Shape.{Shape}
 use Rattle.step.specs.State.{envOf, Machine}
@@ -17,17 +17,17 @@ use Rattle.run.specs.Run.{Outcome}
 use Rattle.recovery.specs.Recover as recovery
 use Rattle.recovery.specs.Recover.{Recovers}
 use Rattle.recovery.specs.declared.Recovered.the-variants as recovered
-use Rattle.recovery.proofs.Laws.{restored-page}
+use Rattle.recovery.proofs.Laws.{restored-kind}
 use Rattle.restart.specs.Reference.{Frame, Numbered, numberedFrom, refAt, emitted, taken}
 use Rattle.restart.specs.History.{System, unused, restored, crashed, given, Request, wrote, lent, outcomeOf, tallyAfter, ran}
-use Rattle.restart.specs.Claim.{Plan, Safe, Resumes, TakenUp, distinct}
+use Rattle.restart.specs.Claim.{Plan, Safe, Resumes, Owned, TakenUp, distinct}
 use Rattle.restart.proofs.Invariant.{Inv}
 use Rattle.restart.proofs.Frames.{emitted-none, news, distinct-append}
 use Rattle.restart.proofs.Phases.{phase-shape}
 use Rattle.restart.proofs.Restoring.{restored-inv}
 use Rattle.restart.proofs.Stopping.{runs-before, steps-paid}
 use Rattle.restart.proofs.Runs.{Ran, run-is}
-use Rattle.run.proofs.Laws.{page-call}
+use Rattle.run.proofs.Laws.{kind-call}
 use Rattle.run.proofs.Accepting.{outputs-first}
 
 -- a number to each
@@ -37,10 +37,11 @@ numbered-length m [] = refl
 numbered-length m (v ∷ l) = ap suc (numbered-length (suc m) l)
 
 -- of any system: the journal can be taken up at the tally of the last final byte; the outputs; the steps since the recovery
-pub record Lasting (p : List ℕ) (ρ : List ℤ) (f₀ : Frame) (page n t₀ : ℕ) (s : System) : Type 0 where
+pub record Lasting (p : List ℕ) (ρ : List ℤ) (f₀ : Frame) (page owner n t₀ : ℕ) (s : System) : Type 0 where
   pub saves : List Checkpoint
   pub torn : List ℕ
-  pub shape : Shape (factsOf (formatOf page) p) (s .machine .journal) saves torn
+  pub shape : Shape (factsOf (formatFor page owner) p) (s .machine .journal) saves torn
+  pub owned : Owned owner saves
   pub resumes : Resumes p saves (refAt p ρ f₀ (s .tally .committed))
   pub size : length (s .machine .journal) ≡ n
   pub since : t₀ ≤ s .tally .committed
@@ -49,22 +50,22 @@ pub record Lasting (p : List ℕ) (ρ : List ℤ) (f₀ : Frame) (page n t₀ : 
   pub bound : (j : ℕ) → ¬ (refAt p ρ f₀ j .stop ≡ 0) → s .steps ≤ j + 2 * n
 
 -- of a good one: the invariant, its registers are for that kind of chip, and nothing was retired past a stop
-pub record Upheld (p : List ℕ) (ρ : List ℤ) (f₀ : Frame) (page n t₀ : ℕ) (s : System) : Type 0 where
-  pub lasting : Lasting p ρ f₀ page n t₀ s
+pub record Upheld (p : List ℕ) (ρ : List ℤ) (f₀ : Frame) (page owner n t₀ : ℕ) (s : System) : Type 0 where
+  pub lasting : Lasting p ρ f₀ page owner n t₀ s
   pub inv : s .good ≡ true → Inv p ρ f₀ n (s .machine) (s .tally) (s .steps)
-  pub paged : s .good ≡ true → s .machine .regs .page ≡ page
+  pub kind : s .good ≡ true → (s .machine .regs .page ≡ page) × (s .machine .regs .owner ≡ owner)
   pub within : s .good ≡ true → (j : ℕ) → ¬ (refAt p ρ f₀ j .stop ≡ 0) → s .tally .retired ≤ j
 
-module _ (p : List ℕ) (ρ : List ℤ) (f₀ : Frame) (plan : Plan p) (page n t₀ : ℕ) where
+module _ (p : List ℕ) (ρ : List ℤ) (f₀ : Frame) (plan : Plan p) (page owner n t₀ : ℕ) where
   abbrev L : System → Type 0
-  L = Lasting p ρ f₀ page n t₀
+  L = Lasting p ρ f₀ page owner n t₀
 
   abbrev U : System → Type 0
-  U = Upheld p ρ f₀ page n t₀
+  U = Upheld p ρ f₀ page owner n t₀
 
   -- ---- the beginning
 
-  pub upheld-first : (m : Machine) → length (m .journal) ≡ n → TakenUp page p (refAt p ρ f₀ t₀) (m .journal) → U (unused t₀ m)
+  pub upheld-first : (m : Machine) → length (m .journal) ≡ n → TakenUp page owner p (refAt p ρ f₀ t₀) (m .journal) → U (unused t₀ m)
   unfolding distinct
   upheld-first m l u =
       record {
@@ -73,6 +74,7 @@ module _ (p : List ℕ) (ρ : List ℤ) (f₀ : Frame) (plan : Plan p) (page n t
               saves = u .saves;
               torn = u .torn;
               shape = u .shape;
+              owned = u .owned;
               resumes = u .resumes;
               size = l;
               since = omega arith;
@@ -81,7 +83,7 @@ module _ (p : List ℕ) (ρ : List ℤ) (f₀ : Frame) (plan : Plan p) (page n t
               bound = λ j z. omega arith;
             };
         inv = λ g. clash false g refl;
-        paged = λ g. clash false g refl;
+        kind = λ g. clash false g refl;
         within = λ g. clash false g refl;
       }
 
@@ -95,6 +97,7 @@ module _ (p : List ℕ) (ρ : List ℤ) (f₀ : Frame) (plan : Plan p) (page n t
               saves = h .saves;
               torn = h .torn;
               shape = h .shape;
+              owned = h .owned;
               resumes = h .resumes;
               size = h .size;
               since = h .since;
@@ -103,23 +106,24 @@ module _ (p : List ℕ) (ρ : List ℤ) (f₀ : Frame) (plan : Plan p) (page n t
               bound = h .bound;
             };
         inv = λ g. clash false g refl;
-        paged = λ g. clash false g refl;
+        kind = λ g. clash false g refl;
         within = λ g. clash false g refl;
       }
 
   -- ---- a good system
 
   -- the invariant gives the rest, where the outputs are as they should be and nothing was retired past a stop
-  upheld-by : (s : System) → Inv p ρ f₀ n (s .machine) (s .tally) (s .steps) → s .machine .regs .page ≡ page → t₀ ≤ s .tally .committed
+  upheld-by : (s : System) → Inv p ρ f₀ n (s .machine) (s .tally) (s .steps) → (s .machine .regs .page ≡ page) × (s .machine .regs .owner ≡ owner) → t₀ ≤ s .tally .committed
       → distinct [] (s .outputs) ≡ emitted p ρ f₀ t₀ (s .tally .highest) → ((j : ℕ) → ¬ (refAt p ρ f₀ j .stop ≡ 0) → s .tally .retired ≤ j) → U s
-  upheld-by s i paged since outputs within =
+  upheld-by s i kind since outputs within =
       let q = phase-shape p (s .machine) (i .saves) (i .phase) in
       record {
         lasting =
             record {
               saves = i .saves;
               torn = q .0;
-              shape = subst (λ (x : ℕ). Shape (factsOf (formatOf x) p) (s .machine .journal) (i .saves) (q .0)) paged (q .1);
+              shape = subst (λ (G : Format). Shape (factsOf G p) (s .machine .journal) (i .saves) (q .0)) (λ j. formatFor (kind .0 j) (kind .1 j)) (q .1);
+              owned = subst (λ (o : ℕ). Owned o (i .saves)) (kind .1) (i .owned);
               resumes = i .held .resumes;
               size = i .size;
               since = since;
@@ -128,17 +132,17 @@ module _ (p : List ℕ) (ρ : List ℤ) (f₀ : Frame) (plan : Plan p) (page n t
               bound = λ j z. omega (arith, steps-paid i, within j z);
             };
         inv = λ g. i;
-        paged = λ g. paged;
+        kind = λ g. kind;
         within = λ g. within;
       }
 
   -- ---- an accepted recovery
 
-  pub upheld-restored : (s : System) → L s → (words : List ℕ) → Safe p words → (r : recovery.Outcome) → Recovers (envOf p words) page (s .machine) r
+  pub upheld-restored : (s : System) → L s → (words : List ℕ) → Safe p words → (r : recovery.Outcome) → Recovers (envOf p words) page owner (s .machine) r
       → r .answer ≡ recovered.Restored → U (restored s r)
   upheld-restored s h words safe r x a =
-      let i = restored-inv p words plan safe page (s .machine) (h .saves) (h .torn) (h .shape) ρ f₀ n (s .tally) (h .resumes) (h .high) (h .size) r x a in
-      upheld-by (restored s r) i (restored-page (envOf p words) page (s .machine) r x a) (h .since) (h .outputs) (λ j z. omega (arith, runs-before p ρ f₀ (s .tally .committed) j (h .resumes .runs) z))
+      let i = restored-inv p words plan safe page owner (s .machine) (h .saves) (h .torn) (h .shape) (h .owned) ρ f₀ n (s .tally) (h .resumes) (h .high) (h .size) r x a in
+      upheld-by (restored s r) i (restored-kind (envOf p words) page owner (s .machine) r x a) (h .since) (h .outputs) (λ j z. omega (arith, runs-before p ρ f₀ (s .tally .committed) j (h .resumes .runs) z))
 
   -- ---- a run
 
@@ -196,12 +200,14 @@ module _ (p : List ℕ) (ρ : List ℤ) (f₀ : Frame) (plan : Plan p) (page n t
         ∙ news p ρ f₀ t₀ (s .tally .retired) (tallyAfter p ρ s r .retired) (s .tally .highest) (omega (arith, a, i .order)) (x .rises) (i .high)
         ∙ ap (emitted p ρ f₀ t₀) (sym (x .top))
 
-    run-paged : outcomeOf p ρ (s .machine) r .machine .regs .page ≡ page
+    run-kind : (outcomeOf p ρ (s .machine) r .machine .regs .page ≡ page) × (outcomeOf p ρ (s .machine) r .machine .regs .owner ≡ owner)
     unfolding outcomeOf
-    run-paged = page-call (envOf p (r .words)) (lent p ρ (s .machine) r) (r .budget) (s .machine) (r .places) ∙ h .paged good
+    run-kind =
+        let k = kind-call (envOf p (r .words)) (lent p ρ (s .machine) r) (r .budget) (s .machine) (r .places) in
+        (k .0 ∙ h .kind good .0, k .1 ∙ h .kind good .1)
 
     pub upheld-run : U (ran p ρ s r)
     unfolding ran
     upheld-run =
         let x = the-run .standing in
-        upheld-by (ran p ρ s r) run-inv run-paged (omega (arith, h .lasting .since, x .since)) run-outputs (x .within)
+        upheld-by (ran p ρ s r) run-inv run-kind (omega (arith, h .lasting .since, x .since)) run-outputs (x .within)

@@ -1,7 +1,7 @@
 -- Demand 3 as one claim about histories: document 01, "Demand 3 is a single claim about the list, not one for each call." `Claim` holds of every history
 -- (`claim` of proofs/Theorem.antt), and 01's own lists are an instance (`demand-3` there).
 -- Assumes nothing.
-use Prim.Native.Nat.{ℕ, _+_, _*_, _≤_, _<_}
+use Prim.Native.Nat.{ℕ, _+_, _*_, _^_, _≤_, _<_}
 use mathlib.Core.Path.{_≡_}
 use mathlib.Core.Bool.{Bool, true, cond, _&&_, _||_}
 use mathlib.Core.List.{List, [], _∷_, _++_}
@@ -17,8 +17,8 @@ use Rattle.execution.specs.Effects.{countFull}
 use Rattle.analysis.specs.Paths.{Live, Dead, Region}
 use Rattle.analysis.specs.Analyse.{Analyses}
 use Rattle.analysis.specs.declared.Analysed.the-variants.{Sets}
-use Rattle.journal.specs.Format.{Checkpoint, formatOf, chipLength}
-use Rattle.journal.specs.Reading.{first, factsOf, lastOf, savedValue}
+use Rattle.journal.specs.Format.{Checkpoint, unowned, ownerOf, formatFor, chipLength}
+use Rattle.journal.specs.Reading.{first, factsOf, lastOf, ownAll, savedValue}
 use Rattle.journal.specs.Shape.{Shape}
 use Rattle.step.specs.declared.Regs.{Regs}
 use Rattle.step.specs.State.{Env, envOf, Machine}
@@ -58,11 +58,17 @@ pub record Resumes (p : List ℕ) (js : List Checkpoint) (f : Frame) : Type 0 wh
   pub cells : (c : ℕ) → Live p c (f .pc) → savedValue c js 0 ≡ getD (f .cells) c 0
   pub region : ¬ (lastOf first js .exclude ≡ 0) → Region p (lastOf first js .exclude) (f .pc)
 
--- a journal that can be taken up where f stands: whole sound checkpoints, then nothing or a part of one, then FF
-pub record TakenUp (page : ℕ) (p : List ℕ) (f : Frame) (chip : List ℕ) : Type 0 where
+-- every whole mark of the checkpoints js names the owner, which fits its field of a MARK
+pub record Owned (owner : ℕ) (js : List Checkpoint) : Type 0 where
+  pub all : ownAll owner js ≡ true
+  pub fits : owner < 2 ^ 32
+
+-- a journal that can be taken up where f stands: whole sound checkpoints whose marks name the owner, then nothing or a part of one, then FF
+pub record TakenUp (page owner : ℕ) (p : List ℕ) (f : Frame) (chip : List ℕ) : Type 0 where
   pub saves : List Checkpoint
   pub torn : List ℕ
-  pub shape : Shape (factsOf (formatOf page) p) chip saves torn
+  pub shape : Shape (factsOf (formatFor page owner) p) chip saves torn
+  pub owned : Owned owner saves
   pub resumes : Resumes p saves f
 
 -- ---- the claim
@@ -114,14 +120,14 @@ module _ (p : List ℕ) (ρ : List ℤ) (f₀ : Frame) (n t₀ : ℕ) (Words : L
     one : (r : Request) (j : ℕ) → Suffices k s r j → Chain k s j (outcomeOf p ρ (s .machine) r .ended) (ran p ρ s r)
     more : {i : ℕ} {x : Ended} {s′ : System} → Chain k s i x s′ → (r : Request) (j : ℕ) → Suffices k s′ r j
         → Chain k s (i + j) (outcomeOf p ρ (s′ .machine) r .ended) (ran p ρ s′ r)
-    beside-recovery : {i : ℕ} {x : Ended} {s′ : System} → Chain k s i x s′ → (e : Env) (other : ℕ) (l : Lent) (r : recovery.Outcome)
-        → Recovers e other (given l (s′ .machine)) r → ¬ (r .answer ≡ recovered.Restored) → Chain k s i x (refused s′ l r)
+    beside-recovery : {i : ℕ} {x : Ended} {s′ : System} → Chain k s i x s′ → (e : Env) (other whose : ℕ) (l : Lent) (r : recovery.Outcome)
+        → Recovers e other whose (given l (s′ .machine)) r → ¬ (r .answer ≡ recovered.Restored) → Chain k s i x (refused s′ l r)
     beside-run : {i : ℕ} {x : Ended} {s′ : System} → Chain k s i x s′ → (e : Env) (l : Lent) (ρ′ : List ℤ) (budget : ℕ) (outs : List ℤ)
         → ¬ Accepted (callOf e ρ′ budget (given l (s′ .machine)) outs .ended)
         → Chain k s i x (refusedRun s′ l (callOf e ρ′ budget (given l (s′ .machine)) outs))
 
-  -- of a list for chips with pages of so many bytes
-  pub record Claim (page : ℕ) (s : System) : Type 0 where
+  -- of a list for chips with pages of so many bytes, whose marks name the owner
+  pub record Claim (page owner : ℕ) (s : System) : Type 0 where
     -- "After each accepted call that no cut ended, place, counts, kind of stop and every cell not dead before that place are the uncut run's after as many
     -- commands as the tally says."
     pub follows : s .good ≡ true → Agrees p (frameOf (s .machine)) (refAt p ρ f₀ (s .tally .retired))
@@ -142,11 +148,12 @@ module _ (p : List ℕ) (ρ : List ℤ) (f₀ : Frame) (n t₀ : ℕ) (Words : L
     pub stopped : s .good ≡ true → ¬ (s .machine .regs .stop ≡ 0) → ¬ (refAt p ρ f₀ (s .tally .highest) .stop ≡ 0)
     -- "With that plan, those sets and that chip, recovery never gives 12": with any state it has an outcome, and each is accepted, unless no chip of the kind has that length
     pub recoverable : chipLength page n ≡ true → (words : List ℕ) → Words words → (m : Machine) → m .journal ≡ s .machine .journal
-        → (r : recovery.Outcome) × Recovers (envOf p words) page m r
+        → (r : recovery.Outcome) × Recovers (envOf p words) page owner m r
     pub taken-up : chipLength page n ≡ true → (words : List ℕ) → Words words → (m : Machine) → m .journal ≡ s .machine .journal
-        → (r : recovery.Outcome) → Recovers (envOf p words) page m r → r .answer ≡ recovered.Restored
+        → (r : recovery.Outcome) → Recovers (envOf p words) page owner m r → r .answer ≡ recovered.Restored
+    -- of what kind ever, it gives no number from 12 on: "A restart is promised, never 15 or 16, for a chip without `A2` marks and the very plan that wrote it"
     pub not-damaged : (words : List ℕ) → Words words → (m : Machine) → m .journal ≡ s .machine .journal
-        → (r : recovery.Outcome) → Recovers (envOf p words) page m r → ¬ (r .answer ≡ recovered.Refused 12)
+        → (r : recovery.Outcome) → Recovers (envOf p words) page owner m r → (k : ℕ) → 12 ≤ k → ¬ (r .answer ≡ recovered.Refused k)
     -- "and a run never gives 10 on a state that an accepted call left and no cut has since spoiled": it is never refused
     pub accepted : s .good ≡ true → (words : List ℕ) → Words words → refusalOf (envOf p words) (s .machine) ≡ 0
     -- "If the uncut run stops after n commands, at most n plus twice the chip's length steps follow an accepted recovery before the next"
@@ -174,9 +181,13 @@ pub record Found (p words : List ℕ) : Type 0 where
   pub excludes : ℕ
   pub analyses : Analyses p dead-lent lent dead words (Sets cells instructions excludes)
 
--- demand 3 for chips with pages of so many bytes: for every accepted plan, all readings, every chip's length and every list. `Demand3 1` is the byte chip's, as document 01
--- has it, and `Demand3 16` the page chip's: "The restart claim is wanted for this chip beside the byte chip"
+-- the marks of a list's chip name its plan, as Q-8 has it, or no plan, as document 01 has it
+abbrev pub Names : (p : List ℕ) → (owner : ℕ) → Type 0
+Names p owner = (owner ≡ ownerOf p) ⊎ (owner ≡ unowned)
+
+-- demand 3 for chips with pages of so many bytes: for every accepted plan, either kind of mark, all readings, every chip's length and every list. `Demand3 1` is the byte chip's,
+-- with `unowned` as document 01 has it, and `Demand3 16` the page chip's: "The restart claim is wanted for this chip beside the byte chip"
 abbrev pub Demand3 : (page : ℕ) → Type 0
 Demand3 page =
-    (p : List ℕ) → Plan p → (ρ : List ℤ) (n : ℕ) (words : List ℕ) → Found p words → (s : System)
-    → History p ρ page n 0 (Erased n) (λ w. w ≡ words) s → Claim p ρ zeros n 0 (λ w. w ≡ words) page s
+    (p : List ℕ) → Plan p → (owner : ℕ) → Names p owner → (ρ : List ℤ) (n : ℕ) (words : List ℕ) → Found p words → (s : System)
+    → History p ρ page owner n 0 (Erased n) (λ w. w ≡ words) s → Claim p ρ zeros n 0 (λ w. w ≡ words) page owner s

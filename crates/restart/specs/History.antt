@@ -178,22 +178,22 @@ module _ (p : List ℕ) (ρ : List ℤ) where
 
   -- ---- histories
 
-  -- page is how many bytes the chip stores as a unit ("the accepted calls of a list are all for one kind"), n its length, t₀ the tally at first, `Begins` what the chip
-  -- holds then, and `Words` the words of DE and RO that accepted calls are lent: "Its accepted calls all get one plan, the sets found for it, and that chip and state as last left;
-  -- nobody else writes these."
-  module _ (page n t₀ : ℕ) (Begins Words : List ℕ → Type 0) where
+  -- page is how many bytes the chip stores as a unit ("the accepted calls of a list are all for one kind"), owner what its marks name, `unowned` for document 01's marks and
+  -- `ownerOf p` for today's, n its length, t₀ the tally at first, `Begins` what the chip holds then, and `Words` the words of DE and RO that accepted calls are lent: "Its accepted
+  -- calls all get one plan, the sets found for it, and that chip and state as last left; nobody else writes these."
+  module _ (page owner n t₀ : ℕ) (Begins Words : List ℕ → Type 0) where
     pub data History : System → Type 0 where
       -- "begins on an erased chip with any state"
       begins : (m : Machine) → length (m .journal) ≡ n → Begins (m .journal) → History (unused t₀ m)
       -- a refused call: its arguments are any, of any kind of chip, and the definition refuses them. A run of another kind on the list's state is one that is lent a state with its
-      -- numbers and another page
-      refused-recovery : {s : System} → History s → (e : Env) (other : ℕ) (l : Lent) (r : recovery.Outcome) → Recovers e other (given l (s .machine)) r
+      -- numbers and another page or owner
+      refused-recovery : {s : System} → History s → (e : Env) (other whose : ℕ) (l : Lent) (r : recovery.Outcome) → Recovers e other whose (given l (s .machine)) r
           → ¬ (r .answer ≡ recovered.Restored) → History (refused s l r)
       refused-run : {s : System} → History s → (e : Env) (l : Lent) (ρ′ : List ℤ) (budget : ℕ) (outs : List ℤ)
           → ¬ Accepted (callOf e ρ′ budget (given l (s .machine)) outs .ended)
           → History (refusedRun s l (callOf e ρ′ budget (given l (s .machine)) outs))
       -- an accepted recovery, on any state
-      recovers : {s : System} → History s → (words : List ℕ) → Words words → (r : recovery.Outcome) → Recovers (envOf p words) page (s .machine) r
+      recovers : {s : System} → History s → (words : List ℕ) → Words words → (r : recovery.Outcome) → Recovers (envOf p words) page owner (s .machine) r
           → r .answer ≡ recovered.Restored → History (restored s r)
       -- "A cut falls between two steps, in a recovery call too"
       crashes : {s : System} → History s → (m : Machine) → History (crashed s m)

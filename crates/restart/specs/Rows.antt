@@ -16,6 +16,7 @@ use Rattle.analysis.specs.Rows.{row, deadBefore, deOf, roOf}
 use Rattle.marks.specs.declared.Mark.{Mark}
 use Rattle.marks.specs.declared.Mark.the-variants.{Pending, Dead}
 use Rattle.marks.specs.Marks.{excluded}
+use Rattle.journal.specs.Format.{unowned, ownerOf}
 use Rattle.step.specs.State.{Env, envOf, Machine}
 use Rattle.run.specs.Run.{Outcome, callOf}
 use Rattle.run.specs.declared.Ended.{Ended}
@@ -28,12 +29,13 @@ use Rattle.restart.specs.History.{wrote}
 
 -- ---- runs
 
--- a first run: a plan and the words of its sets, the length of the chip, which is erased, and of its pages, the readings lent, the budget, and the places for outputs
+-- a first run: a plan and the words of its sets, the length of the chip, which is erased, and of its pages, what its marks name, the readings lent, the budget, and the places for outputs
 pub record Trial : Type 0 where
   pub program : List ℕ
   pub words : List ℕ
   pub chip : ℕ
   pub page : ℕ
+  pub owner : ℕ
   pub readings : List ℤ
   pub budget : ℕ
   pub places : List ℤ
@@ -46,14 +48,14 @@ unfoldable pub ranFrom : Trial → Machine → Outcome
 ranFrom t m = callOf (envIn t) (t .readings) (t .budget) m (t .places)
 
 -- recovery with this chip and any state: it has an outcome, and each is accepted and leaves a machine that Q holds of
-abbrev pub AfterRecovery : Env → (page : ℕ) → List ℕ → (Machine → Type 0) → Type 0
-AfterRecovery e page chip Q =
+abbrev pub AfterRecovery : Env → (page owner : ℕ) → List ℕ → (Machine → Type 0) → Type 0
+AfterRecovery e page owner chip Q =
     (m : Machine) → m .journal ≡ chip
-    → ((r : recovery.Outcome) × Recovers e page m r) × ((r : recovery.Outcome) → Recovers e page m r → (r .answer ≡ Restored) × Q (r .machine))
+    → ((r : recovery.Outcome) × Recovers e page owner m r) × ((r : recovery.Outcome) → Recovers e page owner m r → (r .answer ≡ Restored) × Q (r .machine))
 
 -- "Every run begins with recovery, on an erased chip too": from the machine that it leaves, the run ends with x, and Q holds of that machine and of what the run leaves
 abbrev pub AfterRun : Trial → Ended → (Machine → Outcome → Type 0) → Type 0
-AfterRun t x Q = AfterRecovery (envIn t) (t .page) (replicate (t .chip) 0xFF) (λ m. (ranFrom t m .ended ≡ x) × Q m (ranFrom t m))
+AfterRun t x Q = AfterRecovery (envIn t) (t .page) (t .owner) (replicate (t .chip) 0xFF) (λ m. (ranFrom t m .ended ≡ x) × Q m (ranFrom t m))
 
 -- ---- rows
 
@@ -86,11 +88,11 @@ Holds (chipIs t bytes) = AfterRun t NoReading (λ m o. o .machine .journal ≡ b
 Holds (cutAfter t n c v i j) =
     AfterRun t Spent (λ m o.
     (o .machine .regs .write ≡ n)
-    × AfterRecovery (envIn t) (t .page) (o .machine .journal) (λ m′.
+    × AfterRecovery (envIn t) (t .page) (t .owner) (o .machine .journal) (λ m′.
     (getD (m′ .cells) c 0 ≡ bitsOf v) × (m′ .regs .readings ≡ i) × (m′ .regs .outputs ≡ j)))
 Holds (chipRefused t n) =
     (m : Machine) → m .journal ≡ replicate (t .chip) 0xFF
-    → ((r : recovery.Outcome) × Recovers (envIn t) (t .page) m r) × ((r : recovery.Outcome) → Recovers (envIn t) (t .page) m r → r .answer ≡ Refused n)
+    → ((r : recovery.Outcome) × Recovers (envIn t) (t .page) (t .owner) m r) × ((r : recovery.Outcome) → Recovers (envIn t) (t .page) (t .owner) m r → r .answer ≡ Refused n)
 Holds (markBecomes k de ro after) = excluded k de ro ≡ after
 Holds (effectIs i vs e) = effectOf i (pos 0) 0 0 (cellsIn (map bitsOf vs)) ≡ e
 
@@ -109,27 +111,37 @@ small = 0x02 ∷ 0x02 ∷ 0 ∷ 0 ∷ 0 ∷ 0 ∷ 0 ∷ 0x07 ∷ 0x01 ∷ 0x04 �
 unfoldable pub smallSets : List ℕ
 smallSets = 6 ∷ 0 ∷ 0 ∷ 0 ∷ 4 ∷ 0 ∷ 0 ∷ 0 ∷ replicate 504 0
 
--- it on a chip of n bytes with such pages and so much budget, the readings 5, 7, −2, and places enough
-abbrev pub trialOn : (page n budget : ℕ) → Trial
-trialOn page n budget =
+-- it on a chip of n bytes with such pages and marks and so much budget, the readings 5, 7, −2, and places enough
+abbrev pub trialOn : (page owner n budget : ℕ) → Trial
+trialOn page owner n budget =
     record {
       program = small;
       words = smallSets;
       chip = n;
       page = page;
+      owner = owner;
       readings = pos 5 ∷ pos 7 ∷ negsuc 1 ∷ [];
       budget = budget;
       places = replicate 8 (pos 0);
     }
 
--- on a byte chip
+-- on a byte chip whose marks name the plan, and on one as document 01 has it
 abbrev pub trial : (n budget : ℕ) → Trial
-trial n budget = trialOn 1 n budget
+trial n budget = trialOn 1 (ownerOf small) n budget
 
--- the bytes of the row "first save"
+abbrev pub trialUntil : (n budget : ℕ) → Trial
+trialUntil n budget = trialOn 1 unowned n budget
+
+-- the bytes of the row "first save" up to the last one, with the mark's first byte, and then its end: "now ends `14 00 44 00 5A`"
+abbrev saveBegins : (lead : ℕ) → List ℕ
+saveBegins lead =
+    0xA1 ∷ 0x00 ∷ 0x05 ∷ 0x00 ∷ 0x00 ∷ 0x00 ∷ lead ∷ 0x11 ∷ 0x00 ∷ 0x0F ∷ 0x00 ∷ 0x01 ∷ 0x00 ∷ 0x00 ∷ 0x00 ∷ 0x01 ∷ 0x00 ∷ 0x00 ∷ 0x00 ∷ []
+
 abbrev pub firstSave : List ℕ
-firstSave =
-    0xA1 ∷ 0x00 ∷ 0x05 ∷ 0x00 ∷ 0x00 ∷ 0x00 ∷ 0xA2 ∷ 0x11 ∷ 0x00 ∷ 0x0F ∷ 0x00 ∷ 0x01 ∷ 0x00 ∷ 0x00 ∷ 0x00 ∷ 0x01 ∷ 0x00 ∷ 0x00 ∷ 0x00 ∷ 0x5A ∷ []
+firstSave = saveBegins 0xA3 ++ 0x14 ∷ 0x00 ∷ 0x44 ∷ 0x00 ∷ 0x5A ∷ []
+
+abbrev pub firstUntil : List ℕ
+firstUntil = saveBegins 0xA2 ++ 0x5A ∷ []
 
 -- EXCLUDE, CHECKPOINT, PUT 1 len 0 0, EMIT 1, END: a PUT at offset 3 into the table of cells 1 to len, which are the last ones, and cell 1 is read behind it
 abbrev pub putInto : (len : ℕ) → List ℕ
@@ -155,20 +167,24 @@ rows =
     ∷ setIs (row (putInto 2) (deOf 1) (2 ∷ []))
     ∷ setIs (row (putInto 2) (roOf 1) (0 ∷ []))
     -- "readings 5, 7, −2: outputs 5, 12, 10"
-    ∷ outputsAre (trial 60 1000) 19 (pos 5 ∷ pos 12 ∷ pos 10 ∷ [])
-    -- "first save `A1 00 05 00 00 00 A2 11 00 0F 00 01 00 00 00 01 00 00 00 5A`"
-    ∷ chipBegins (trial 60 1000) firstSave
-    -- "20 bytes of chip hold it, 19 none"
-    ∷ chipIs (trial 20 1000) firstSave
-    ∷ chipIs (trial 19 1000) (replicate 19 0xFF)
+    ∷ outputsAre (trial 72 1000) 19 (pos 5 ∷ pos 12 ∷ pos 10 ∷ [])
+    -- Q-8: "The first save of 01's plan now ends `14 00 44 00 5A` and has 24 bytes; 24 bytes of chip hold it, 23 none"
+    ∷ chipBegins (trial 72 1000) firstSave
+    ∷ chipIs (trial 24 1000) firstSave
+    ∷ chipIs (trial 23 1000) (replicate 23 0xFF)
     -- Q-4: on a page chip 32 bytes hold it, filled, and 16 none; 31 are not divisible by 16
-    ∷ chipIs (trialOn 16 32 1000) (firstSave ++ replicate 12 0xFF)
-    ∷ chipIs (trialOn 16 16 1000) (replicate 16 0xFF)
-    ∷ chipRefused (trialOn 16 31 1000) 11
+    ∷ chipIs (trialOn 16 (ownerOf small) 32 1000) (firstSave ++ replicate 8 0xFF)
+    ∷ chipIs (trialOn 16 (ownerOf small) 16 1000) (replicate 16 0xFF)
+    ∷ chipRefused (trialOn 16 (ownerOf small) 31 1000) 11
     -- "Cuts fall between pages": a cut between its two pages, the 7th step stores the first, recovers to the start
-    ∷ cutAfter (trialOn 16 32 7) 16 0 (pos 0) 0 0
+    ∷ cutAfter (trialOn 16 (ownerOf small) 32 7) 16 0 (pos 0) 0 0
     -- "cut after 33 bytes: cell 0 is 5, both counts 1"; the 45th step stores the 33rd byte
-    ∷ cutAfter (trial 60 45) 33 0 (pos 5) 1 1
+    ∷ cutAfter (trial 72 45) 33 0 (pos 5) 1 1
+    -- the same with the marks that 01 has: "first save `A1 00 05 00 00 00 A2 11 00 0F 00 01 00 00 00 01 00 00 00 5A`", "20 bytes of chip hold it, 19 none"
+    ∷ chipBegins (trialUntil 60 1000) firstUntil
+    ∷ chipIs (trialUntil 20 1000) firstUntil
+    ∷ chipIs (trialUntil 19 1000) (replicate 19 0xFF)
+    ∷ cutAfter (trialUntil 60 45) 33 0 (pos 5) 1 1
     -- "Dead, in RO alone: Pending"
     ∷ markBecomes Dead false true Pending
     -- "7 / −2 = −3"

@@ -57,7 +57,7 @@ module _ {p : List ℕ} (plan : Plan p) {ρ : List ℤ} {f₀ : Frame} {n : ℕ}
       }
 
   -- THE BYTES HOLD THE STATE
-  pub machine-back : machineIn (m .regs .page) (bytesOfState m) (m .journal) ≡ m
+  pub machine-back : machineIn (m .regs .page) (m .regs .owner) (bytesOfState m) (m .journal) ≡ m
   machine-back =
       let b = state-back (m .regs) (m .cells) (m .marks) (i .good .cells) (i .good .marks) (i .small .values) (marks-bytes (i .good)) regs-fit in
       λ j. machineOf (b .0 j) (b .1 j) (b .2 j) (m .journal)

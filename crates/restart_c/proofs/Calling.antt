@@ -1,7 +1,8 @@
 -- What calls of the C interface leave: a refused one everything, an accepted one what the definitions of recovery and of a run say.
 -- Assumes nothing.
-use Prim.Native.Nat.{ℕ, suc, _/_, _≤_}
+use Prim.Native.Nat.{ℕ, suc, _/_, _≤_, _<_}
 use mathlib.Core.Path.{_≡_, refl, sym, _∙_, ap}
+use mathlib.Core.Bool.{true, false}
 use mathlib.Core.List.{List, _++_}
 use native.Mathlib.Omega.{arith}
 use lib.Dec.{eqb, ltb}
@@ -12,13 +13,14 @@ use Rattle.program.specs.Check.{checkOf, numberOf}
 use Rattle.program.proofs.Tests.{bool-cases}
 use Rattle.journal.specs.declared.Scanned.{Scanned}
 use Rattle.journal.specs.declared.Scanned.the-variants.{BadLength, Damaged, Found}
+use Rattle.journal.specs.Reading.{Facts}
 use Rattle.step.specs.State.{Env, Machine}
 use Rattle.run.specs.Run.{started, refusalOf, callOf, answerOf}
 use Rattle.run.proofs.Laws.{steps-within}
 use Rattle.run.specs.declared.Ended.{Ended}
 use Rattle.run.specs.declared.Ended.the-variants as ended
 use Rattle.recovery.specs.Recover as recovery
-use Rattle.recovery.specs.Recover.{recoverOf, Recovers, refuses, reads}
+use Rattle.recovery.specs.Recover.{damagedAs, Older, recoverOf, Recovers, refuses, reads}
 use Rattle.recovery.specs.declared.Recovered.{Recovered}
 use Rattle.recovery.specs.declared.Recovered.the-variants.{Restored, Refused}
 use Rattle.layout.specs.Layout.{stateSize}
@@ -33,19 +35,29 @@ pub recovery-kept : {page : ℕ} {p ws chip state left : List ℕ} {result : ℕ
 recovery-kept {result = result} x z = x .left ∙ rw (ne-eqb result 0 z)
 
 -- what is read and has the number 0 is restored
-read-restored : (e : Env) (page : ℕ) (a : Scanned) (values : List ℕ) (m : Machine) → 0 ≡ recovery.answerOf (recoverOf e page a values m .answer) .number
-    → recoverOf e page a values m .answer ≡ Restored
+read-restored : (e : Env) (page owner : ℕ) (a : Scanned) (n : ℕ) (values : List ℕ) (m : Machine) → (a ≡ Damaged → ¬ (n ≡ 0))
+    → 0 ≡ recovery.answerOf (recoverOf e page owner a n values m .answer) .number → recoverOf e page owner a n values m .answer ≡ Restored
 unfolding recoverOf
-read-restored e page BadLength values m h = absurd (omega arith)
-read-restored e page Damaged values m h = absurd (omega arith)
-read-restored e page (Found end torn last) values m h = refl
+read-restored e page owner BadLength n values m z h = absurd (omega arith)
+read-restored e page owner Damaged n values m z h = absurd (z refl (sym h))
+read-restored e page owner (Found end torn last true) n values m z h = refl
+read-restored e page owner (Found end torn last false) n values m z h = absurd (omega arith)
+
+-- the number of a chip that is damaged as one of the owner's is not 0
+damaged-some : (a : Scanned) → ¬ (damagedAs a ≡ 0)
+damaged-some BadLength h = omega arith
+damaged-some Damaged h = omega arith
+damaged-some (Found end torn last own) h = bool-cases (ltb 0 end) (λ b. let z = rw b at h in omega arith) (λ b. let z = rw b at h in omega arith)
+
+older-some : {F : Facts} {chip : List ℕ} {n : ℕ} → Older F chip n → ¬ (n ≡ 0)
+older-some o z = damaged-some (o .answer) (sym (o .number-is) ∙ z)
 
 -- so is every outcome with it
-outcome-restored : (e : Env) (page : ℕ) (m : Machine) (r : recovery.Outcome) → Recovers e page m r → 0 ≡ recovery.answerOf (r .answer) .number → r .answer ≡ Restored
-outcome-restored e page m r (refuses n h l k) z =
+outcome-restored : (e : Env) (page owner : ℕ) (m : Machine) (r : recovery.Outcome) → Recovers e page owner m r → 0 ≡ recovery.answerOf (r .answer) .number → r .answer ≡ Restored
+outcome-restored e page owner m r (refuses n h l k) z =
     let y : 0 ≡ n = z ∙ ap (λ (o : recovery.Outcome). recovery.answerOf (o .answer) .number) k in
     absurd (omega arith)
-outcome-restored e page m r (reads h a values s k) z = rw k (read-restored e page a values m (rw k at z))
+outcome-restored e page owner m r (reads h a values s n o k) z = rw k (read-restored e page owner a n values m (λ d. older-some (o d)) (rw k at z))
 
 -- a refusal's number tells it
 pub refused-number : (a : Recovered) (k : ℕ) → ¬ (k ≡ 0) → recovery.answerOf a .number ≡ k → a ≡ Refused k
@@ -53,11 +65,11 @@ refused-number Restored k z h = absurd (z (sym h))
 refused-number (Refused n) k z h = ap Refused h
 
 -- of an accepted plan, a state of another length gives 9 or 10
-pub odd-number : (p ws : List ℕ) → numberOf (checkOf p) ≡ 0 → ¬ (oddState p ws ≡ 12)
+pub odd-number : (p ws : List ℕ) → numberOf (checkOf p) ≡ 0 → oddState p ws < 12
 unfolding oddState
-odd-number p ws h e =
+odd-number p ws h =
     let n = eq-eqb (numberOf (checkOf p)) 0 h in
-    bool-cases (ltb (length ws / 8) 512) (λ c. let z = rw (n, c) at e in omega arith) (λ c. let z = rw (n, c) at e in omega arith)
+    bool-cases (ltb (length ws / 8) 512) (λ c. rw (n, c) (omega arith)) (λ c. rw (n, c) (omega arith))
 
 module _ {page : ℕ} {p ws chip state left : List ℕ} (x : RecoverCall page p ws chip state left 0) where
   -- an accepted call was lent a state of the right length
@@ -69,7 +81,7 @@ module _ {page : ℕ} {p ws chip state left : List ℕ} (x : RecoverCall page p 
 
   -- and restored it
   pub accepted-restored : x .outcome .answer ≡ Restored
-  accepted-restored = outcome-restored _ _ _ (x .outcome) (x .recovers accepted-size) (x .number ∙ rw accepted-size)
+  accepted-restored = outcome-restored _ _ _ _ (x .outcome) (x .recovers accepted-size) (x .number ∙ rw accepted-size)
 
 -- ---- a run
 

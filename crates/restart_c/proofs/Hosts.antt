@@ -13,6 +13,7 @@ use lib.IntN.{ℤ}
 use lib.ListN.{length, getD, take, drop, replicate, length-replicate}
 use lib.Seq.{drop-nil}
 use Rattle.layout.specs.Numbers.{signedFrom, signedOf}
+use Rattle.journal.specs.Format.{ownerOf}
 use Rattle.layout.specs.Layout.{machineIn}
 use Rattle.execution.specs.Effects.{ended}
 use Rattle.pitskelo.specs.Runs.{RunLent, RunLeft, runCallOf, RecoverCall}
@@ -57,7 +58,7 @@ module _ (page : ℕ) (p ws : List ℕ) (ρ : List ℤ) (n j : ℕ) where
   -- each call is equipped for its steps
   equipped : (k : ℕ) {b : Board} {l : RunLent} → HostCall b l → Suffices page p ρ Own k b l j
   equipped k {b} {l} h =
-      let at = machineIn page (b .state) (b .chip) .regs .readings in
+      let at = machineIn page (ownerOf p) (b .state) (b .chip) .regs .readings in
       let e : take j (drop at ρ) ≡ signedOf (l .readings) = subst (λ (i : ℕ). take i (drop at ρ) ≡ signedOf (l .readings)) (h .readings) (sym (h .lends .readings)) in (
         h .lends,
         record {
@@ -145,7 +146,7 @@ module _ (page : ℕ) (ws : List ℕ) (n : ℕ) where
   host-call : (b : Board) → HostCall page twice ws [] n 1 b (hostCall b)
   unfolding signedOf signedFrom
   host-call b =
-      let none = sym (ap (take 1) (drop-nil (machineIn page (b .state) (b .chip) .regs .readings))) in
+      let none = sym (ap (take 1) (drop-nil (machineIn page (ownerOf twice) (b .state) (b .chip) .regs .readings))) in
       let lends : Lends page twice [] (λ v. v ≡ ws) b (hostCall b) = record { kind = refl; plan = refl; sets = refl; chip = refl; state = refl; count = 1; readings = none } in
       record { lends = lends; budget = refl; readings = refl; places = refl }
 

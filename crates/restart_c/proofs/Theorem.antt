@@ -1,6 +1,6 @@
 -- DEMAND 3 OF THE C CALLS: every list of calls is a history of crate `restart`, so that its claim holds (`demand-3`).
 -- Assumes nothing.
-use Prim.Native.Nat.{ℕ, suc, _+_, _*_, _≤_}
+use Prim.Native.Nat.{ℕ, suc, _+_, _*_, _≤_, _<_}
 use mathlib.Core.Path.{_≡_, refl, sym, _∙_, ap, subst}
 use mathlib.Core.Bool.{Bool, true, false, cond}
 use mathlib.Core.List.{List, [], _∷_, _++_}
@@ -10,6 +10,9 @@ use borrow.Author.Tests.{eqb-true, eq-eqb}
 use lib.Dec.{eqb}
 use lib.IntN.{ℤ}
 use lib.ListN.{length, getD, take}
+use Rattle.cellset.proofs.Bits.{le-or-lt}
+use Rattle.journal.specs.Format.{ownerOf}
+use Rattle.journal.proofs.Naming.{owner-small}
 use Rattle.step.specs.State.{envOf, Machine}
 use Rattle.run.specs.Run.{Outcome, started, callOf, answerOf}
 use Rattle.run.specs.declared.Ended.{Ended}
@@ -48,17 +51,17 @@ kept false e f = refl
 
 -- a plan, the sets' bytes that accepted calls are lent, with the words that stand in them, and what a list begins with, as crate `restart` wants them
 module _ (page : ℕ) (p : List ℕ) (plan : Plan p) (ρ : List ℤ) (Sets Words : List ℕ → Type 0) (words : (ws : List ℕ) → Sets ws → Words (setsIn ws))
-    (safe : (w : List ℕ) → Words w → Safe p w) (n t₀ : ℕ) (Begins : List ℕ → Type 0) (takes-up : (l : List ℕ) → Begins l → TakenUp page p (refAt p ρ zeros t₀) l) where
+    (safe : (w : List ℕ) → Words w → Safe p w) (n t₀ : ℕ) (Begins : List ℕ → Type 0) (takes-up : (l : List ℕ) → Begins l → TakenUp page (ownerOf p) p (refAt p ρ zeros t₀) l) where
   -- the histories and lists that begin so
   abbrev H : System → Type 0
-  H = History p ρ page n t₀ Begins Words
+  H = History p ρ page (ownerOf p) n t₀ Begins Words
 
   abbrev C : Board → Type 0
   C = Calls page p ρ Sets n t₀ Begins
 
   -- the invariant of histories
-  held : {s : System} → H s → Upheld p ρ zeros page n t₀ s
-  held h = upheld p ρ zeros plan page n t₀ Begins Words takes-up safe h
+  held : {s : System} → H s → Upheld p ρ zeros page (ownerOf p) n t₀ s
+  held h = upheld p ρ zeros plan page (ownerOf p) n t₀ Begins Words takes-up safe h
 
   -- a good machine's state has the length of a state
   bytes-size : {m : Machine} {t : Tally} {k : ℕ} → Inv p ρ zeros n m t k → length (bytesOfState m) ≡ stateSize
@@ -67,14 +70,14 @@ module _ (page : ℕ) (p : List ℕ) (plan : Plan p) (ρ : List ℤ) (Sets Words
   -- ---- an accepted recovery
 
   -- it leaves the bytes of the state that is restored
-  recovered : {b : Board} → H (systemOf page b) → (ws : List ℕ) → Sets ws → (left : List ℕ) → RecoverCall page p ws (b .chip) (b .state) left 0 → H (systemOf page (restored b left))
+  recovered : {b : Board} → H (systemOf page (ownerOf p) b) → (ws : List ℕ) → Sets ws → (left : List ℕ) → RecoverCall page p ws (b .chip) (b .state) left 0 → H (systemOf page (ownerOf p) (restored b left))
   unfolding regsIn
   recovered {b} h ws w left x =
       let r = x .outcome in
       let c = x .recovers (accepted-size x) in
-      let g : H (list.restored (systemOf page b) r) = list.recovers h (setsIn ws) (words ws w) r c (accepted-restored x) in
-      let m : machineIn page left (b .chip) ≡ r .machine =
-      (λ i. machineIn (sym (held g .paged refl) i) (x .left i) (sym (journal-stays _ _ _ r c) i)) ∙ machine-back plan (held g .inv refl) in
+      let g : H (list.restored (systemOf page (ownerOf p) b) r) = list.recovers h (setsIn ws) (words ws w) r c (accepted-restored x) in
+      let m : machineIn page (ownerOf p) left (b .chip) ≡ r .machine =
+      (λ i. machineIn (sym (held g .kind refl .0) i) (sym (held g .kind refl .1) i) (x .left i) (sym (journal-stays _ _ _ _ r c) i)) ∙ machine-back plan (held g .inv refl) in
       subst (λ (m : Machine). H (record { machine = m; good = true; tally = list.setBack (b .tally); outputs = b .outputs; steps = 0 })) (sym m) g
 
   -- ---- an accepted run
@@ -90,17 +93,17 @@ module _ (page : ℕ) (p : List ℕ) (plan : Plan p) (ρ : List ℤ) (Sets Words
 
     -- what the machine makes of it
     abbrev made : Outcome
-    made = outcomeOf p ρ (machineIn page (b .state) (b .chip)) request
+    made = outcomeOf p ρ (machineIn page (ownerOf p) (b .state) (b .chip)) request
 
     -- which is the outcome of the bytes
     same-outcome : ranOn l ≡ made
     unfolding ranOn outcomeOf
     same-outcome = λ i.
-        callOf (envOf (x .plan i) (setsIn (l .sets))) (x .readings i) (l .budget) (machineIn (x .kind i) (x .state i) (x .chip i)) (signedOf (l .outputs))
+        callOf (envOf (x .plan i) (setsIn (l .sets))) (x .readings i) (l .budget) (machineIn (x .kind i) (ownerOf (x .plan i)) (x .state i) (x .chip i)) (signedOf (l .outputs))
 
     -- what stands in the bytes and numbers that are left is the system after the run
-    done-same : Writes made (l .outputs) → machineIn page (bytesOfState (made .machine)) (made .machine .journal) ≡ made .machine
-        → systemOf page (ran b l (runDone l made)) ≡ list.ran p ρ (systemOf page b) request
+    done-same : Writes made (l .outputs) → machineIn page (ownerOf p) (bytesOfState (made .machine)) (made .machine .journal) ≡ made .machine
+        → systemOf page (ownerOf p) (ran b l (runDone l made)) ≡ list.ran p ρ (systemOf page (ownerOf p) b) request
     unfolding list.ran tallyAfter
     done-same w e =
         let ns = made .steps ∷ made .taken ∷ made .written ∷ [] in
@@ -111,75 +114,76 @@ module _ (page : ℕ) (p : List ℕ) (plan : Plan p) (ρ : List ℤ) (Sets Words
           machine = e i;
           good = b .good;
           tally =
-              talliedOver (envOf (x .plan i) (setsIn (l .sets))) (x .readings i) (steps i) (started (machineIn (x .kind i) (x .state i) (x .chip i))) (b .tally);
-          outputs = b .outputs ++ numberedFrom (machineIn (x .kind i) (x .state i) (x .chip i) .regs .outputs) (outs i);
+              talliedOver (envOf (x .plan i) (setsIn (l .sets))) (x .readings i) (steps i) (started (machineIn (x .kind i) (ownerOf (x .plan i)) (x .state i) (x .chip i))) (b .tally);
+          outputs = b .outputs ++ numberedFrom (machineIn (x .kind i) (ownerOf (x .plan i)) (x .state i) (x .chip i) .regs .outputs) (outs i);
           steps = b .steps + steps i;
         }
 
     -- which is accepted
-    writes : H (systemOf page b) → b .good ≡ true → Writes made (l .outputs)
+    writes : H (systemOf page (ownerOf p) b) → b .good ≡ true → Writes made (l .outputs)
     unfolding outcomeOf
     writes h g =
         call-writes _ _ _ _ (l .outputs) (not-refused (record { legal = plan .legal; words = safe (setsIn (l .sets)) lent-words .enough; good = held h .inv g .good }))
 
     -- so the run is one of a history
-    made-run : H (systemOf page b) → b .good ≡ true → H (list.ran p ρ (systemOf page b) request)
+    made-run : H (systemOf page (ownerOf p) b) → b .good ≡ true → H (list.ran p ρ (systemOf page (ownerOf p) b) request)
     made-run h g = list.runs h g request lent-words (writes h g .accepted)
 
-    made-inv : (h : H (systemOf page b)) (g : b .good ≡ true)
-        → Inv p ρ zeros n (made .machine) (tallyAfter p ρ (systemOf page b) request) (b .steps + made .steps)
+    made-inv : (h : H (systemOf page (ownerOf p) b)) (g : b .good ≡ true)
+        → Inv p ρ zeros n (made .machine) (tallyAfter p ρ (systemOf page (ownerOf p) b) request) (b .steps + made .steps)
     unfolding list.ran
     made-inv h g = held (made-run h g) .inv g
 
     -- its bytes hold the machine
-    made-back : (h : H (systemOf page b)) (g : b .good ≡ true) → machineIn page (bytesOfState (made .machine)) (made .machine .journal) ≡ made .machine
+    made-back : (h : H (systemOf page (ownerOf p) b)) (g : b .good ≡ true) → machineIn page (ownerOf p) (bytesOfState (made .machine)) (made .machine .journal) ≡ made .machine
     unfolding list.ran
     made-back h g =
-        ap (λ (k : ℕ). machineIn k (bytesOfState (made .machine)) (made .machine .journal)) (sym (held (made-run h g) .paged g)) ∙ machine-back plan (made-inv h g)
+        let k = held (made-run h g) .kind g in
+        (λ i. machineIn (sym (k .0) i) (sym (k .1) i) (bytesOfState (made .machine)) (made .machine .journal)) ∙ machine-back plan (made-inv h g)
 
     -- what it leaves
     left-is : runCallOf l .result ≡ 0 → runCallOf l ≡ runDone l made
     left-is z = run-done l z ∙ ap (runDone l) same-outcome
 
     -- and the system that its bytes hold
-    went-same : H (systemOf page b) → b .good ≡ true → runCallOf l .result ≡ 0 → systemOf page (ran b l (runCallOf l)) ≡ list.ran p ρ (systemOf page b) request
-    went-same h g z = ap (λ (o : RunLeft). systemOf page (ran b l o)) (left-is z) ∙ done-same (writes h g) (made-back h g)
+    went-same : H (systemOf page (ownerOf p) b) → b .good ≡ true → runCallOf l .result ≡ 0 → systemOf page (ownerOf p) (ran b l (runCallOf l)) ≡ list.ran p ρ (systemOf page (ownerOf p) b) request
+    went-same h g z = ap (λ (o : RunLeft). systemOf page (ownerOf p) (ran b l o)) (left-is z) ∙ done-same (writes h g) (made-back h g)
 
-    went : H (systemOf page b) → b .good ≡ true → runCallOf l .result ≡ 0 → H (systemOf page (ran b l (runCallOf l)))
+    went : H (systemOf page (ownerOf p) b) → b .good ≡ true → runCallOf l .result ≡ 0 → H (systemOf page (ownerOf p) (ran b l (runCallOf l)))
     went h g z = subst H (sym (went-same h g z)) (made-run h g)
 
     -- with the result 0
-    result : H (systemOf page b) → b .good ≡ true → length (b .state) ≡ stateSize → runCallOf l .result ≡ 0
+    result : H (systemOf page (ownerOf p) b) → b .good ≡ true → length (b .state) ≡ stateSize → runCallOf l .result ≡ 0
     result h g size =
         accepted-result l (ap length (x .state) ∙ size)
         (ap (λ (o : Outcome). answerOf (o .ended) .number) same-outcome ∙ accepted-number (made .ended) (writes h g .accepted))
 
-    ran-size : H (systemOf page b) → b .good ≡ true → runCallOf l .result ≡ 0 → length (runCallOf l .state) ≡ stateSize
+    ran-size : H (systemOf page (ownerOf p) b) → b .good ≡ true → runCallOf l .result ≡ 0 → length (runCallOf l .state) ≡ stateSize
     ran-size h g z = ap (λ (o : RunLeft). length (o .state)) (left-is z) ∙ bytes-size (made-inv h g)
 
     -- its tally is the history's
-    same-tally : H (systemOf page b) → b .good ≡ true → runCallOf l .result ≡ 0 → ran b l (runCallOf l) .tally ≡ tallyAfter p ρ (systemOf page b) request
+    same-tally : H (systemOf page (ownerOf p) b) → b .good ≡ true → runCallOf l .result ≡ 0 → ran b l (runCallOf l) .tally ≡ tallyAfter p ρ (systemOf page (ownerOf p) b) request
     unfolding list.ran
     same-tally h g z = ap (λ (s : System). s .tally) (went-same h g z)
 
     -- its numbers behind the kind of ending, and the kind
-    number-is : (h : H (systemOf page b)) (g : b .good ≡ true) → runCallOf l .result ≡ 0 → (i : ℕ)
+    number-is : (h : H (systemOf page (ownerOf p) b)) (g : b .good ≡ true) → runCallOf l .result ≡ 0 → (i : ℕ)
         → getD (runCallOf l .numbers) (suc i) 0 ≡ getD (made .steps ∷ made .taken ∷ made .written ∷ []) i 0
     number-is h g z i = ap (λ (o : RunLeft). getD (o .numbers) (suc i) 0) (left-is z) ∙ number-at (made .ended) (writes h g .accepted) _ i
 
-    kind-is : (h : H (systemOf page b)) (g : b .good ≡ true) → runCallOf l .result ≡ 0 → getD (runCallOf l .numbers) 0 0 ≡ getD (answerOf (made .ended) .values) 0 0
+    kind-is : (h : H (systemOf page (ownerOf p) b)) (g : b .good ≡ true) → runCallOf l .result ≡ 0 → getD (runCallOf l .numbers) 0 0 ≡ getD (answerOf (made .ended) .values) 0 0
     kind-is h g z = ap (λ (o : RunLeft). getD (o .numbers) 0 0) (left-is z) ∙ kind-at (made .ended) (writes h g .accepted) _
 
     -- what it takes and writes, by the claim of the system before it
-    module _ (c : Claim p ρ zeros n t₀ Words page (systemOf page b)) (h : H (systemOf page b)) (g : b .good ≡ true) (z : runCallOf l .result ≡ 0) where
+    module _ (c : Claim p ρ zeros n t₀ Words page (ownerOf p) (systemOf page (ownerOf p) b)) (h : H (systemOf page (ownerOf p) b)) (g : b .good ≡ true) (z : runCallOf l .result ≡ 0) where
       takes-is : let o = runCallOf l in let t = taken p ρ zeros (b .tally .retired) (ran b l o .tally .retired) in
           (getD (o .numbers) 2 0 ≡ length t)
-          × (numberedFrom (machineIn page (b .state) (b .chip) .regs .readings) (take (getD (o .numbers) 2 0) (signedOf (l .readings))) ≡ t)
+          × (numberedFrom (machineIn page (ownerOf p) (b .state) (b .chip) .regs .readings) (take (getD (o .numbers) 2 0) (signedOf (l .readings))) ≡ t)
       takes-is =
           let k = number-is h g z 1 in
           let t = ap (λ (t : Tally). taken p ρ zeros (b .tally .retired) (t .retired)) (sym (same-tally h g z)) in (
             k ∙ c .counts g request lent-words .0 ∙ ap length t,
-            (λ i. numberedFrom (machineIn page (b .state) (b .chip) .regs .readings) (take (k i) (x .readings i))) ∙ c .takes g request lent-words ∙ t,
+            (λ i. numberedFrom (machineIn page (ownerOf p) (b .state) (b .chip) .regs .readings) (take (k i) (x .readings i))) ∙ c .takes g request lent-words ∙ t,
           )
 
       writes-is : let o = runCallOf l in let t = emitted p ρ zeros (b .tally .retired) (ran b l o .tally .retired) in
@@ -190,41 +194,41 @@ module _ (page : ℕ) (p : List ℕ) (plan : Plan p) (ρ : List ℤ) (Sets Words
           let outs = ap (λ (o : RunLeft). take (getD (o .numbers) 3 0) (signedOf (o .outputs))) (left-is z)
           ∙ ap (λ (j : ℕ). take j (signedOf (runDone l made .outputs))) (number-at (made .ended) (writes h g .accepted) _ 2) ∙ writes h g .held in (
             k ∙ c .counts g request lent-words .1 ∙ ap length t,
-            (λ i. numberedFrom (machineIn (x .kind i) (x .state i) (x .chip i) .regs .outputs) (outs i)) ∙ c .writes g request lent-words ∙ t,
+            (λ i. numberedFrom (machineIn (x .kind i) (ownerOf (x .plan i)) (x .state i) (x .chip i) .regs .outputs) (outs i)) ∙ c .writes g request lent-words ∙ t,
           )
 
     -- its steps are within its budget
-    steps-most : H (systemOf page b) → b .good ≡ true → runCallOf l .result ≡ 0 → getD (runCallOf l .numbers) 1 0 ≤ l .budget
+    steps-most : H (systemOf page (ownerOf p) b) → b .good ≡ true → runCallOf l .result ≡ 0 → getD (runCallOf l .numbers) 1 0 ≤ l .budget
     unfolding outcomeOf
-    steps-most h g z = omega (arith, number-is h g z 0, call-steps (envOf p (setsIn (l .sets))) (list.lent p ρ (machineIn page (b .state) (b .chip)) request) (l .budget) (machineIn page (b .state) (b .chip)) (signedOf (l .outputs)))
+    steps-most h g z = omega (arith, number-is h g z 0, call-steps (envOf p (setsIn (l .sets))) (list.lent p ρ (machineIn page (ownerOf p) (b .state) (b .chip)) request) (l .budget) (machineIn page (ownerOf p) (b .state) (b .chip)) (signedOf (l .outputs)))
 
     -- what it is equipped for
-    suffices : {k j : ℕ} → Equipped p ρ zeros k (machineIn page (b .state) (b .chip) .regs) (l .budget) (length (signedOf (l .readings))) (length (signedOf (l .outputs))) j
-        → restart.Suffices p ρ zeros n t₀ Words k (systemOf page b) request j
+    suffices : {k j : ℕ} → Equipped p ρ zeros k (machineIn page (ownerOf p) (b .state) (b .chip) .regs) (l .budget) (length (signedOf (l .readings))) (length (signedOf (l .outputs))) j
+        → restart.Suffices p ρ zeros n t₀ Words k (systemOf page (ownerOf p) b) request j
     suffices e = (lent-words, record { steps = e .steps; reads = rw (x .readings) at (e .reads); gives = e .gives })
 
   -- ---- EVERY LIST IS A HISTORY
-  pub history : {b : Board} → C b → H (systemOf page b)
+  pub history : {b : Board} → C b → H (systemOf page (ownerOf p) b)
   unfolding regsIn
-  history (begins state chip l b) = list.begins (machineIn page state chip) l b
+  history (begins state chip l b) = list.begins (machineIn page (ownerOf p) state chip) l b
   history (refused-recovery {b} c kind q vs chip state left result x z own same) =
-      subst (λ (st : List ℕ). H (systemOf page (holding b st (b .chip)))) (sym (kept own (recovery-kept x z) same)) (history c)
+      subst (λ (st : List ℕ). H (systemOf page (ownerOf p) (holding b st (b .chip)))) (sym (kept own (recovery-kept x z) same)) (history c)
   history (refused-run {b} c l z own-state own-chip same-state same-chip) =
       let k = run-kept l z in
       let st = kept own-state (ap (λ (o : RunLeft). o .state) k) same-state in
       let ch = kept own-chip (ap (λ (o : RunLeft). o .chip) k) same-chip in
-      subst H (λ i. systemOf page (holding b (sym st i) (sym ch i))) (history c)
+      subst H (λ i. systemOf page (ownerOf p) (holding b (sym st i) (sym ch i))) (history c)
   history (recovers c ws w left x) = recovered (history c) ws w left x
-  history (crashes c state) = list.crashes (history c) (machineIn page state [])
+  history (crashes c state) = list.crashes (history c) (machineIn page (ownerOf p) state [])
   history (runs c g l x z) = went l x (history c) g z
-  history (crashed-run c g l x z state) = list.crashes (went l x (history c) g z) (machineIn page state [])
+  history (crashed-run c g l x z state) = list.crashes (went l x (history c) g z) (machineIn page (ownerOf p) state [])
 
   -- ---- and a good state has its length
 
-  restored-size : {b : Board} → H (systemOf page b) → (ws : List ℕ) → Sets ws → (left : List ℕ) → RecoverCall page p ws (b .chip) (b .state) left 0 → length left ≡ stateSize
+  restored-size : {b : Board} → H (systemOf page (ownerOf p) b) → (ws : List ℕ) → Sets ws → (left : List ℕ) → RecoverCall page p ws (b .chip) (b .state) left 0 → length left ≡ stateSize
   restored-size {b} h ws w left x =
       let r = x .outcome in
-      let g : H (list.restored (systemOf page b) r) = list.recovers h (setsIn ws) (words ws w) r (x .recovers (accepted-size x)) (accepted-restored x) in
+      let g : H (list.restored (systemOf page (ownerOf p) b) r) = list.recovers h (setsIn ws) (words ws w) r (x .recovers (accepted-size x)) (accepted-restored x) in
       ap length (x .left) ∙ bytes-size (held g .inv refl)
 
   sized : {b : Board} → C b → b .good ≡ true → length (b .state) ≡ stateSize
@@ -240,8 +244,8 @@ module _ (page : ℕ) (p : List ℕ) (plan : Plan p) (ρ : List ℤ) (Sets Words
   -- ---- what the entries answer
 
   -- the claim of the system that the bytes hold
-  pub claims : {b : Board} → C b → Claim p ρ zeros n t₀ Words page (systemOf page b)
-  claims c = claim p ρ zeros plan page n t₀ Begins Words takes-up safe (history c)
+  pub claims : {b : Board} → C b → Claim p ρ zeros n t₀ Words page (ownerOf p) (systemOf page (ownerOf p) b)
+  claims c = claim p ρ zeros plan page (ownerOf p) n t₀ Begins Words takes-up safe (history c)
 
   -- ---- a chain of calls
 
@@ -250,12 +254,12 @@ module _ (page : ℕ) (p : List ℕ) (plan : Plan p) (ρ : List ℤ) (Sets Words
     pub calls : C b′
     pub good : b′ .good ≡ true
     pub answer : Ended
-    pub chain : Chain p ρ zeros n t₀ Words k (systemOf page b) j answer (systemOf page b′)
+    pub chain : Chain p ρ zeros n t₀ Words k (systemOf page (ownerOf p) b) j answer (systemOf page (ownerOf p) b′)
     pub result : o .result ≡ 0
     pub kind : getD (o .numbers) 0 0 ≡ getD (answerOf answer .values) 0 0
 
   led-run : (k : ℕ) (b b′ : Board) (j : ℕ) → C b′ → b′ .good ≡ true → (l : RunLent) (x : Lends page p ρ Sets b′ l)
-      → Chain p ρ zeros n t₀ Words k (systemOf page b) j (made l x .ended) (list.ran p ρ (systemOf page b′) (request l x))
+      → Chain p ρ zeros n t₀ Words k (systemOf page (ownerOf p) b) j (made l x .ended) (list.ran p ρ (systemOf page (ownerOf p) b′) (request l x))
       → Led k b j (runCallOf l) (ran b′ l (runCallOf l))
   led-run k b b′ j c g l x h =
       let z = result l x (history c) g (sized c g) in
@@ -263,7 +267,7 @@ module _ (page : ℕ) (p : List ℕ) (plan : Plan p) (ρ : List ℤ) (Sets Words
         calls = runs c g l x z;
         good = g;
         answer = made l x .ended;
-        chain = subst (Chain p ρ zeros n t₀ Words k (systemOf page b) j (made l x .ended)) (sym (went-same l x (history c) g z)) h;
+        chain = subst (Chain p ρ zeros n t₀ Words k (systemOf page (ownerOf p) b) j (made l x .ended)) (sym (went-same l x (history c) g z)) h;
         result = z;
         kind = kind-is l x (history c) g z;
       }
@@ -288,7 +292,7 @@ module _ (page : ℕ) (p : List ℕ) (plan : Plan p) (ρ : List ℤ) (Sets Words
       → calls.Chain page p ρ Sets k b j o b′ → k + 2 * n ≤ j → (o .result ≡ 0) × (getD (o .numbers) 0 0 ≡ refAt p ρ zeros k .stop)
   reaches c g k z j o b′ h m =
       let d = led c g h in
-      (d .result, d .kind ∙ ap (λ (x : Ended). getD (answerOf x .values) 0 0) (claims c .stops g k z j (d .answer) (systemOf page b′) (d .chain) m))
+      (d .result, d .kind ∙ ap (λ (x : Ended). getD (answerOf x .values) 0 0) (claims c .stops g k z j (d .answer) (systemOf page (ownerOf p) b′) (d .chain) m))
 
   pub answers : {b : Board} → C b → Answers page p ρ Sets n b
   answers {b} c =
@@ -309,16 +313,20 @@ module _ (page : ℕ) (p : List ℕ) (plan : Plan p) (ρ : List ℤ) (Sets Words
             λ x h. kind ∙ ap (λ (x : Ended). getD (answerOf x .values) 0 0) h in
             ⊎-elim (λ h. inl (by Spent h)) (λ h. inr (by (Stopped _) h)) (claims c .spends g k z (request l (e .0)) (suffices l (e .0) (e .1)));
         not-damaged =
-            λ ws w state left result x e.
+            λ ws w state left result x.
             bool-cases (eqb (length state) stateSize)
-            (λ s. claims c .not-damaged (setsIn ws) (words ws w) (machineIn page state (b .chip)) refl (x .outcome) (x .recovers (eqb-true _ _ s))
-            (refused-number (x .outcome .answer) 12 (λ z. omega arith) (sym (rw s at (x .number)) ∙ e)))
-            (λ s. odd-number p ws (ap numberOf (plan .legal .accepted)) (sym (rw s at (x .number)) ∙ e));
+            (λ s. ⊎-elim
+            (λ (h : 12 ≤ result).
+            absurd (claims c .not-damaged (setsIn ws) (words ws w) (machineIn page (ownerOf p) state (b .chip)) refl (x .outcome) (x .recovers (eqb-true _ _ s)) result h
+            (refused-number (x .outcome .answer) result (λ z. omega arith) (sym (rw s at (x .number))))))
+            (λ (h : result < 12). h)
+            (le-or-lt 12 result))
+            (λ s. let z = rw s at (x .number) in omega (arith, odd-number p ws (ap numberOf (plan .legal .accepted))));
         restores =
             λ most ws w state left result size x.
             rw (eq-eqb (length state) stateSize size) at (x .number)
             ∙ ap (λ (a : Recovered). recovery.answerOf a .number)
-            (claims c .taken-up most (setsIn ws) (words ws w) (machineIn page state (b .chip)) refl (x .outcome) (x .recovers size));
+            (claims c .taken-up most (setsIn ws) (words ws w) (machineIn page (ownerOf p) state (b .chip)) refl (x .outcome) (x .recovers size));
       }
 
 -- DEMAND 3, for every page length
@@ -326,6 +334,6 @@ pub demand-3 : (page : ℕ) → Demand3 page
 demand-3 page p plan ws found ρ n b c =
     let words : (v : List ℕ) → v ≡ ws → setsIn v ≡ setsIn ws = λ v e. ap setsIn e in
     let safe : (w : List ℕ) → w ≡ setsIn ws → Safe p w = λ w e. subst (Safe p) (sym e) (sets-safe plan found) in (
-      claims page p plan ρ (λ v. v ≡ ws) (λ w. w ≡ setsIn ws) words safe n 0 (Erased n) (erased-taken p ρ page n) c,
-      answers page p plan ρ (λ v. v ≡ ws) (λ w. w ≡ setsIn ws) words safe n 0 (Erased n) (erased-taken p ρ page n) c,
+      claims page p plan ρ (λ v. v ≡ ws) (λ w. w ≡ setsIn ws) words safe n 0 (Erased n) (erased-taken p ρ page (ownerOf p) n (owner-small p)) c,
+      answers page p plan ρ (λ v. v ≡ ws) (λ w. w ≡ setsIn ws) words safe n 0 (Erased n) (erased-taken p ρ page (ownerOf p) n (owner-small p)) c,
     )

@@ -1,14 +1,14 @@
 -- Lists of C calls, over the bytes that are lent: document 01, "A list of recoveries, runs and cuts, refused calls of any content among them, begins on an erased
 -- chip with any state." What each call leaves is what its contract says (crate `pitskelo`).
 -- Assumes nothing.
-use Prim.Native.Nat.{ℕ, _+_, _*_, _≤_}
+use Prim.Native.Nat.{ℕ, _+_, _*_, _≤_, _<_}
 use mathlib.Core.Path.{_≡_}
 use mathlib.Core.Bool.{Bool, true, false, cond}
 use mathlib.Core.List.{List, [], _++_}
 use mathlib.Core.Logic.{_⊎_}
 use lib.IntN.{ℤ}
 use lib.ListN.{length, getD, take, drop}
-use Rattle.journal.specs.Format.{chipLength}
+use Rattle.journal.specs.Format.{ownerOf, chipLength}
 use Rattle.run.specs.Run.{started}
 use Rattle.step.specs.State.{envOf}
 use Rattle.layout.specs.Numbers.{signedOf}
@@ -29,9 +29,9 @@ pub record Board : Type 0 where
   pub outputs : List Numbered
   pub steps : ℕ
 
--- the system that the bytes hold
-abbrev pub systemOf : (page : ℕ) → Board → System
-systemOf page b = record { machine = machineIn page (b .state) (b .chip); good = b .good; tally = b .tally; outputs = b .outputs; steps = b .steps }
+-- the system that the bytes hold, the marks of its chip naming the owner
+abbrev pub systemOf : (page owner : ℕ) → Board → System
+systemOf page owner b = record { machine = machineIn page owner (b .state) (b .chip); good = b .good; tally = b .tally; outputs = b .outputs; steps = b .steps }
 
 -- before any call, at the tally t
 abbrev pub fresh : (t : ℕ) (state chip : List ℕ) → Board
@@ -59,7 +59,7 @@ holding b state chip = record { state = state; chip = chip; good = b .good; tall
 -- the numbered outputs that a run wrote: "An output's number is not among the outputs' bytes: the first output of a call has the number that the state held .. before the
 -- call, and each next one more"
 abbrev pub wrote : RunLent → RunLeft → List Numbered
-wrote l o = numberedFrom (machineIn (l .page) (l .state) (l .chip) .regs .outputs) (take (getD (o .numbers) 3 0) (signedOf (o .outputs)))
+wrote l o = numberedFrom (machineIn (l .page) (ownerOf (l .plan)) (l .state) (l .chip) .regs .outputs) (take (getD (o .numbers) 3 0) (signedOf (o .outputs)))
 
 -- after an accepted run that left o: its steps are the second of its numbers
 abbrev pub ran : Board → RunLent → RunLeft → Board
@@ -69,7 +69,7 @@ ran b l o =
       chip = o .chip;
       good = b .good;
       tally =
-          talliedOver (envOf (l .plan) (setsIn (l .sets))) (signedOf (l .readings)) (getD (o .numbers) 1 0) (started (machineIn (l .page) (l .state) (l .chip)))
+          talliedOver (envOf (l .plan) (setsIn (l .sets))) (signedOf (l .readings)) (getD (o .numbers) 1 0) (started (machineIn (l .page) (ownerOf (l .plan)) (l .state) (l .chip)))
           (b .tally);
       outputs = b .outputs ++ wrote l o;
       steps = b .steps + getD (o .numbers) 1 0;
@@ -85,12 +85,12 @@ module _ (page : ℕ) (p : List ℕ) (ρ : List ℤ) (Sets : List ℕ → Type 0
     pub chip : l .chip ≡ b .chip
     pub state : l .state ≡ b .state
     pub count : ℕ
-    pub readings : signedOf (l .readings) ≡ take count (drop (machineIn page (b .state) (b .chip) .regs .readings) ρ)
+    pub readings : signedOf (l .readings) ≡ take count (drop (machineIn page (ownerOf p) (b .state) (b .chip) .regs .readings) ρ)
 
   -- a run of the list that is equipped for j of its steps (crate `restart`): of readings and places it is lent as many as their bytes hold
   abbrev pub Suffices : (k : ℕ) → Board → RunLent → (j : ℕ) → Type 0
   Suffices k b l j =
-      Lends b l × Equipped p ρ zeros k (machineIn page (b .state) (b .chip) .regs) (l .budget) (length (signedOf (l .readings))) (length (signedOf (l .outputs))) j
+      Lends b l × Equipped p ρ zeros k (machineIn page (ownerOf p) (b .state) (b .chip) .regs) (l .budget) (length (signedOf (l .readings))) (length (signedOf (l .outputs))) j
 
   -- such runs one after the other, with no recovery between, refused calls of any content among them; the steps that they are equipped for in all, and what the last run left
   pub data Chain (k : ℕ) (b : Board) : (steps : ℕ) → RunLeft → Board → Type 0 where
@@ -142,7 +142,7 @@ pub record Answers (page : ℕ) (p : List ℕ) (ρ : List ℤ) (Sets : List ℕ 
   -- it": taken and given are the third and the fourth of its numbers
   pub takes : b .good ≡ true → (l : RunLent) → Lends page p ρ Sets b l → let o = runCallOf l in let t = taken p ρ zeros (b .tally .retired) (ran b l o .tally .retired) in
       (getD (o .numbers) 2 0 ≡ length t)
-      × (numberedFrom (machineIn page (b .state) (b .chip) .regs .readings) (take (getD (o .numbers) 2 0) (signedOf (l .readings))) ≡ t)
+      × (numberedFrom (machineIn page (ownerOf p) (b .state) (b .chip) .regs .readings) (take (getD (o .numbers) 2 0) (signedOf (l .readings))) ≡ t)
   pub writes : b .good ≡ true → (l : RunLent) → Lends page p ρ Sets b l → let o = runCallOf l in let t = emitted p ρ zeros (b .tally .retired) (ran b l o .tally .retired) in
       (getD (o .numbers) 3 0 ≡ length t) × (wrote l o ≡ t)
   -- steps, the second of its numbers, is at most the budget; "at most n plus twice the chip's length steps follow an accepted recovery before the next"
@@ -154,8 +154,8 @@ pub record Answers (page : ℕ) (p : List ℕ) (ρ : List ℤ) (Sets : List ℕ 
   -- on the way there a run that is equipped for its whole budget spends it: ended is 4, or that kind
   pub spends : b .good ≡ true → (k : ℕ) → ¬ (refAt p ρ zeros k .stop ≡ 0) → (l : RunLent) → Suffices page p ρ Sets k b l (l .budget)
       → let x = getD (runCallOf l .numbers) 0 0 in (x ≡ 4) ⊎ (x ≡ refAt p ρ zeros k .stop)
-  -- "recovery never gives 12", whatever state it is lent; one of the right length is restored, unless no chip of the kind has that length
-  pub not-damaged : (ws : List ℕ) → Sets ws → (state left : List ℕ) (result : ℕ) → RecoverCall page p ws (b .chip) state left result → ¬ (result ≡ 12)
+  -- "recovery never gives 12", and since Q-8 "never 15 or 16", whatever state it is lent; one of the right length is restored, unless no chip of the kind has that length
+  pub not-damaged : (ws : List ℕ) → Sets ws → (state left : List ℕ) (result : ℕ) → RecoverCall page p ws (b .chip) state left result → result < 12
   pub restores : chipLength page n ≡ true → (ws : List ℕ) → Sets ws → (state left : List ℕ) (result : ℕ) → length state ≡ stateSize → RecoverCall page p ws (b .chip) state left result → result ≡ 0
 
 -- demand 3 of the C calls for chips with pages of so many bytes: for every list of calls, the claim of the system that the bytes hold, and what the entries answer. `Demand3 1`
@@ -163,4 +163,4 @@ pub record Answers (page : ℕ) (p : List ℕ) (ρ : List ℤ) (Sets : List ℕ 
 abbrev pub Demand3 : (page : ℕ) → Type 0
 Demand3 page =
     (p : List ℕ) → Plan p → (ws : List ℕ) → Found p ws → (ρ : List ℤ) (n : ℕ) (b : Board) → Calls page p ρ (λ v. v ≡ ws) n 0 (Erased n) b
-    → Claim p ρ zeros n 0 (λ w. w ≡ setsIn ws) page (systemOf page b) × Answers page p ρ (λ v. v ≡ ws) n b
+    → Claim p ρ zeros n 0 (λ w. w ≡ setsIn ws) page (ownerOf p) (systemOf page (ownerOf p) b) × Answers page p ρ (λ v. v ≡ ws) n b

@@ -22,7 +22,7 @@ use Rattle.step.specs.State.{Env, Machine}
 use Rattle.step.specs.Step.{stepOf, executedOf, effectAt, dueOpcode, givenBy, takenBy, givenOf, takenOf}
 use Rattle.step.specs.Ready.{Ready, Good}
 use Rattle.run.specs.Run.{Call, Finish, exitBefore, stepped, runOf, started, refusalOf, callOf}
-use Rattle.step.proofs.Keeping.{step-page, good-step}
+use Rattle.step.proofs.Keeping.{SameKind, step-kind, good-step}
 
 -- ---- the four exits
 
@@ -249,12 +249,12 @@ module _ (e : Env) (ρ : List ℤ) (room : ℕ) where
       (λ left c g h k. rw (makes-step left c (exit-none g)) (h (good-step (getD ρ (c .taken) (pos 0)) r k (g .runs))))
 
   -- it keeps to the kind of chip
-  pub page-run : (left : ℕ) (c : Call) → runOf e ρ room left c .call .machine .regs .page ≡ c .machine .regs .page
+  pub kind-run : (left : ℕ) (c : Call) → SameKind (runOf e ρ room left c .call .machine) (c .machine)
   unfolding stepped
-  page-run =
-      run-ind (λ left c. runOf e ρ room left c .call .machine .regs .page ≡ c .machine .regs .page)
-      (λ left c x h. rw (run-ends left c h))
-      (λ left c g h. rw (makes-step left c (exit-none g)) (h ∙ step-page e (getD ρ (c .taken) (pos 0)) (c .machine)))
+  kind-run =
+      run-ind (λ left c. SameKind (runOf e ρ room left c .call .machine) (c .machine))
+      (λ left c x h. rw (run-ends left c h) (refl, refl))
+      (λ left c g h. let k = step-kind e (getD ρ (c .taken) (pos 0)) (c .machine) in rw (makes-step left c (exit-none g)) (h .0 ∙ k .0, h .1 ∙ k .1))
 
   -- and all of it where it is spent
   pub spent-all : (left : ℕ) (c : Call) → runOf e ρ room left c .ended ≡ Spent → runOf e ρ room left c .call .steps ≡ c .steps + left
@@ -265,9 +265,9 @@ module _ (e : Env) (ρ : List ℤ) (room : ℕ) where
       (λ left c g h s. let n = makes-step left c (exit-none g) in rw n (omega (arith, h (rw n at s))))
 
 -- so does a call
-pub page-call : (e : Env) (ρ : List ℤ) (budget : ℕ) (m : Machine) (outs : List ℤ) → callOf e ρ budget m outs .machine .regs .page ≡ m .regs .page
+pub kind-call : (e : Env) (ρ : List ℤ) (budget : ℕ) (m : Machine) (outs : List ℤ) → SameKind (callOf e ρ budget m outs .machine) m
 unfolding callOf
-page-call e ρ budget m outs = bool-cases (eqb (refusalOf e m) 0) (λ b. rw b (page-run e ρ (length outs) budget (started m))) (λ b. rw b)
+kind-call e ρ budget m outs = bool-cases (eqb (refusalOf e m) 0) (λ b. rw b (kind-run e ρ (length outs) budget (started m))) (λ b. rw b (refl, refl))
 
 -- ---- runs in parts
 

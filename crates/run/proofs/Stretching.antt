@@ -17,13 +17,13 @@ use Rattle.instruction.specs.Bytes.{byte, cellsOf, lengthOf}
 use Rattle.program.proofs.Tests.{bool-cases}
 use Rattle.execution.specs.Effects.{nextOf}
 use Rattle.marks.specs.Marks.{toStore, savedMarks}
-use Rattle.journal.specs.Format.{formatOf, padded}
+use Rattle.journal.specs.Format.{formatOf, kindOf, padded}
 use Rattle.journal.proofs.Paging.{whole-add, whole-page, whole-next}
 use Rattle.journal.proofs.Decoding.{padded-whole}
 use Rattle.journal.specs.Writing.{checkpointOf}
 use Rattle.step.specs.declared.Regs.{Regs}
 use Rattle.run.specs.declared.Pass.{Pass}
-use Rattle.step.specs.State.{Env, Machine, machineOf, checkpointAt, imageAt, sizeAt}
+use Rattle.step.specs.State.{formatAt, Env, Machine, machineOf, checkpointAt, imageAt, sizeAt}
 use Rattle.step.specs.Step.{onJournal, storedOf, stepOf, dueOpcode, givenOf, takenOf}
 use Rattle.run.specs.Run.{Call, exitBefore, stepped, runOf}
 use Rattle.step.specs.Ready.{Ready, Good}
@@ -62,17 +62,18 @@ module _ {to from m : ℕ} {buffer l₀ l : List ℕ} {i : ℕ} (q : Copying to 
 -- ---- the checkpoint
 
 -- `make`: the buffer and the number of bytes that `image_into` leaves
-pub makes : (p : List ℕ) (r : Regs) (xs ms b : List ℕ) {s : List ℕ} {n t k : ℕ} {b′ : List ℕ} → n ≡ cellsOf p → SetIs s (toStore n ms)
+pub makes : (p : List ℕ) (r : Regs) (xs ms b : List ℕ) {s : List ℕ} {n t k kind : ℕ} {b′ : List ℕ} → kind ≡ kindOf (r .owner) → n ≡ cellsOf p → SetIs s (toStore n ms)
     → byte p (r .pc) ≡ 0x0E → 0 < r .page → r .page ≤ 16 → t ≡ r .pc + lengthOf 0x0E
-    → (k ≡ length (padded (formatOf (r .page)) (checkpointOf s xs (record { place = t; exclude = r .exclude; readings = r .readings; outputs = r .outputs }))))
-    × (b′ ≡ sets b 0 (padded (formatOf (r .page)) (checkpointOf s xs (record { place = t; exclude = r .exclude; readings = r .readings; outputs = r .outputs }))))
-    → (k ≤ 1568) × ((l : List ℕ) → (k ≡ length (imageAt p (machineOf r xs ms l))) × (b′ ≡ sets b 0 (imageAt p (machineOf r xs ms l))))
+    → ((owner : ℕ) → (k ≡ length (padded (formatOf (r .page) kind owner) (checkpointOf s xs (record { place = t; exclude = r .exclude; readings = r .readings; outputs = r .outputs; owner = r .owner }))))
+    × (b′ ≡ sets b 0 (padded (formatOf (r .page) kind owner) (checkpointOf s xs (record { place = t; exclude = r .exclude; readings = r .readings; outputs = r .outputs; owner = r .owner })))))
+    → (k ≤ 1584) × ((l : List ℕ) → (k ≡ length (imageAt p (machineOf r xs ms l))) × (b′ ≡ sets b 0 (imageAt p (machineOf r xs ms l))))
 unfolding sizeAt
-makes p r xs ms b {t = t} {k = k} en h q some few et e =
+makes p r xs ms b {t = t} {k = k} ed en h q some few et g =
+    let e = g (r .owner) in
     let next : t ≡ nextOf p (r .pc) = rw q et in
-    let size : k ≡ length (imageAt p (machineOf r xs ms [])) = e .0 ∙ ap length (image-same p r xs ms [] en h next) in (
+    let size : k ≡ length (imageAt p (machineOf r xs ms [])) = e .0 ∙ ap length (image-same p r xs ms [] en h next ed) in (
       omega (arith, size-small p r xs ms [] en h some few),
-      λ l. (e .0 ∙ ap length (image-same p r xs ms l en h next), e .1 ∙ ap (sets b 0) (image-same p r xs ms l en h next)),
+      λ l. (e .0 ∙ ap length (image-same p r xs ms l en h next ed), e .1 ∙ ap (sets b 0) (image-same p r xs ms l en h next ed)),
     )
 
 -- ---- the registers
@@ -243,13 +244,13 @@ pub record Stretch (p : List ℕ) (r : Regs) (xs ms l : List ℕ) (total : ℕ) 
   pub some : 0 < r .saving
   pub begun : r .saving - 1 + r .page ≤ total
   pub page : 0 < r .page
-  pub most : total ≤ 1568
+  pub most : total ≤ 1584
   pub place : r .pc < 2048
   pub room : r .write + (total - (r .saving - 1)) ≤ length l
   pub small : length l ≤ 65536
 
 pub stretch : (p : List ℕ) (r : Regs) (xs ms l : List ℕ) {total : ℕ} → Good p (machineOf r xs ms l) → length p ≤ 2048 → r .stop ≡ 0 → ¬ (r .saving ≡ 0)
-    → total ≤ 1568 → total ≡ length (imageAt p (machineOf r xs ms l)) → Stretch p r xs ms l total
+    → total ≤ 1584 → total ≡ length (imageAt p (machineOf r xs ms l)) → Stretch p r xs ms l total
 unfolding sizeAt imageAt
 stretch p r xs ms l g n z k h e =
     let some : 0 < r .saving = omega arith in
@@ -266,7 +267,7 @@ stretch p r xs ms l g n z k h e =
             stored = left;
             page = sound .paged .some;
             whole = f .whole;
-            pages = padded-whole (formatOf (r .page)) (sound .paged .some) (checkpointAt p (machineOf r xs ms l));
+            pages = padded-whole (formatAt r) (sound .paged .some) (checkpointAt p (machineOf r xs ms l));
           };
       size = e;
       some = some;
@@ -311,7 +312,7 @@ least-pages rest page left e h = h ∙ ap (λ (n : ℕ). min n left) e
 
 pub store-is : (p : List ℕ) (budget : ℕ) (b : Pass) (xs ms l b₀ : List ℕ) (k : ℕ) {total : ℕ} {r′ : Regs} {ms′ l′ b₁ : List ℕ}
     → Stretch p (b .regs) xs ms l total → Good p (machineOf (b .regs) xs ms l) → b .steps ≤ budget
-    → k ≡ min ((total - (b .regs .saving - 1)) / b .regs .page) (budget - b .steps) → length b₀ ≡ 1568
+    → k ≡ min ((total - (b .regs .saving - 1)) / b .regs .page) (budget - b .steps) → length b₀ ≡ 1584
     → b₁ ≡ sets b₀ 0 (imageAt p (machineOf (b .regs) xs ms l))
     → l′ ≡ sets l (b .regs .write) (take (k * b .regs .page) (drop (b .regs .saving - 1) b₁)) → r′ ≡ storedRegs (b .regs) (k * b .regs .page) total
     → ms′ ≡ cond (eqb (b .regs .saving - 1 + k * b .regs .page) total) (savedMarks (cellsOf p) ms) ms

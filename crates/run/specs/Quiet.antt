@@ -41,6 +41,7 @@ regsAt r f =
       erase = r .erase;
       saving = r .saving;
       page = r .page;
+      owner = r .owner;
     }
 
 -- where the run stands; the outputs given are the first of the buffer

@@ -4,6 +4,7 @@ use crate::Pass;
 use execution::after;
 use instruction::opcodes::CHECKPOINT;
 use journal::Commit;
+use journal::owners::kind_of;
 use journal::pages::count_pages;
 use journal::writing::image_into;
 use marks::keep;
@@ -21,8 +22,8 @@ ghost use Rattle.step.specs.Ready.{Good};
 ghost use Rattle.run.specs.Stretch.{storedRegs, StoreIs};
 
 // m bytes of the buffer, from `from` on, go to the journal, from `to` on.
-fn copy(journal: &mut [u8], to: usize, buffer: &[u8; 1568], from: usize, m: usize)
-    requires { ⌜ (to + m ≤ length (now journal)) × (from + m ≤ 1568) × (length (now buffer) ≡ 1568) × (length (now journal) ≤ 65536) ⌝ }
+fn copy(journal: &mut [u8], to: usize, buffer: &[u8; 1584], from: usize, m: usize)
+    requires { ⌜ (to + m ≤ length (now journal)) × (from + m ≤ 1584) × (length (now buffer) ≡ 1584) × (length (now journal) ≤ 65536) ⌝ }
     ensures { λ _. ⌜ now (journal .exit) ≡ sets (now (journal .entry)) to (take m (drop from (now (buffer .entry)))) ⌝ }
 {
     let mut i: usize = 0;
@@ -39,9 +40,9 @@ fn least(a: usize, b: u64) -> usize
 }
 
 // Makes the checkpoint of the present state, and gives its length.
-fn make(r: Regs, p: &[u8], cells: &[u32; 256], marks: &[u8; 256], buffer: &mut [u8; 1568]) -> usize
+fn make(r: Regs, p: &[u8], cells: &[u32; 256], marks: &[u8; 256], buffer: &mut [u8; 1584]) -> usize
     requires { ⌜ (r .pc < 2048) × (r .exclude < 2048) × (byte (now p) (r .pc) ≡ 0x0E) × (0 < r .page) × (r .page ≤ 16) ⌝ }
-    ensures { λ k. ⌜ (k ≤ 1568) × ((l : List ℕ) → (k ≡ length (imageAt (now (p .entry)) (machineOf r (now (cells .entry)) (now (marks .entry)) l))) × (now (buffer .exit) ≡ sets (now (buffer .entry)) 0 (imageAt (now (p .entry)) (machineOf r (now (cells .entry)) (now (marks .entry)) l)))) ⌝ }
+    ensures { λ k. ⌜ (k ≤ 1584) × ((l : List ℕ) → (k ≡ length (imageAt (now (p .entry)) (machineOf r (now (cells .entry)) (now (marks .entry)) l))) × (now (buffer .exit) ≡ sets (now (buffer .entry)) 0 (imageAt (now (p .entry)) (machineOf r (now (cells .entry)) (now (marks .entry)) l)))) ⌝ }
 {
     let n = cell_count(p);
     let s = stored_cells(marks, n);
@@ -50,13 +51,14 @@ fn make(r: Regs, p: &[u8], cells: &[u32; 256], marks: &[u8; 256], buffer: &mut [
         exclude: r.exclude as u16,
         readings: r.readings,
         outputs: r.outputs,
+        owner: r.owner,
     };
-    image_into(buffer, s, cells, commit, n, r.page)
+    image_into(buffer, s, cells, commit, n, r.page, kind_of(r.owner))
 }
 
 // The registers after m more bytes of a save of `total`.
 fn stored(mut r: Regs, m: usize, total: usize) -> Regs
-    requires { ⌜ (r .pc < 2048) × (0 < r .saving) × (r .saving - 1 + m ≤ total) × (total ≤ 1568) × (r .write + m ≤ 65536) ⌝ }
+    requires { ⌜ (r .pc < 2048) × (0 < r .saving) × (r .saving - 1 + m ≤ total) × (total ≤ 1584) × (r .write + m ≤ 65536) ⌝ }
     ensures { λ q. ⌜ q ≡ storedRegs r m total ⌝ }
 {
     r.write += m as u32;
@@ -93,7 +95,7 @@ pub fn store_some(
     if budget - b.steps < count_pages(16, page) as u64 {
         return b;
     }
-    let mut buffer = [0u8; 1568];
+    let mut buffer = [0u8; 1584];
     let total = make(r, p, cells, marks, &mut buffer);
     let from = r.saving as usize - 1;
     let pages = least(count_pages(total - from, page), budget - b.steps);

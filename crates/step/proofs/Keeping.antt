@@ -18,13 +18,12 @@ use Rattle.execution.specs.Effects.{Effect, stops, on, goes, writes, takes, giv
 use Rattle.marks.specs.Marks.{savedMarks}
 use Rattle.marks.proofs.Laws.{excluded-out, excluded-length, excluded-small, saved-out, saved-length, saved-small}
 use native.Mathlib.Nat.{zero-mod}
-use Rattle.journal.specs.Format.{formatOf}
 use Rattle.journal.proofs.Paging.{whole-add, whole-sub, whole-page}
 use Rattle.journal.proofs.Decoding.{image-some, padded-length}
 use Rattle.program.specs.Places.{isStart, isExclude, excludeNumber}
 use Rattle.program.proofs.Tests.{clash, and-both}
 use Rattle.program.proofs.Accepted.{Accepted, accepted, start-next}
-use Rattle.step.specs.State.{Env, Machine, machineOf, checkpointAt, imageAt, sizeAt, fitsAt, zeroFrom, marksFrom}
+use Rattle.step.specs.State.{Env, Machine, machineOf, formatAt, checkpointAt, imageAt, sizeAt, fitsAt, zeroFrom, marksFrom}
 use Rattle.step.specs.Step.{effectAt, isSaves, excludeAfter, marksAfter, performed, onJournal, begun, executedOf, erasedOf, storedOf, stepOf}
 use Rattle.step.specs.Ready.{Ready, Good}
 use Rattle.step.proofs.Facts.{Paged, Sound, sound-facts, facts-sound, zero-at, zero-from, mark-at, marks-from}
@@ -106,15 +105,19 @@ step-cells e v m = step-lengths e v m .cells
 pub step-marks : (e : Env) (v : ℤ) (m : Machine) → length (stepOf e v m .marks) ≡ length (m .marks)
 step-marks e v m = step-lengths e v m .marks
 
+-- two machines are for one kind of chip
+abbrev pub SameKind : Machine → Machine → Type 0
+SameKind x m = (x .regs .page ≡ m .regs .page) × (x .regs .owner ≡ m .regs .owner)
+
 -- a step keeps to the kind of chip
-pub step-page : (e : Env) (v : ℤ) (m : Machine) → stepOf e v m .regs .page ≡ m .regs .page
+pub step-kind : (e : Env) (v : ℤ) (m : Machine) → SameKind (stepOf e v m) m
 unfolding stepOf erasedOf storedOf executedOf begun performed
-step-page e v m =
-    let P : Machine → Type 0 = λ x. x .regs .page ≡ m .regs .page in
-    pick P (ltb 0 (m .regs .erase)) (λ _. refl)
+step-kind e v m =
+    let P : Machine → Type 0 = λ x. SameKind x m in
+    pick P (ltb 0 (m .regs .erase)) (λ _. (refl, refl))
     (λ _. pick P (ltb 0 (m .regs .saving))
-    (λ _. pick P (eqb (m .regs .saving - 1 + m .regs .page) (sizeAt (e .program) m)) (λ _. refl) (λ _. refl))
-    (λ _. pick P (isSaves (effectAt (e .program) v m) && fitsAt (e .program) m) (λ _. refl) (λ _. refl)))
+    (λ _. pick P (eqb (m .regs .saving - 1 + m .regs .page) (sizeAt (e .program) m)) (λ _. (refl, refl)) (λ _. (refl, refl)))
+    (λ _. pick P (isSaves (effectAt (e .program) v m) && fitsAt (e .program) m) (λ _. (refl, refl)) (λ _. (refl, refl))))
 
 -- ---- lists that stay 0 or marks
 
@@ -249,7 +252,7 @@ size-kept p m w x k l = refl
 -- a save has a byte
 size-some : (p : List ℕ) (m : Machine) → 0 < sizeAt p m
 unfolding sizeAt imageAt
-size-some p m = omega (arith, image-some (checkpointAt p m), padded-length (formatOf (m .regs .page)) (checkpointAt p m))
+size-some p m = omega (arith, image-some (formatAt (m .regs)) (checkpointAt p m), padded-length (formatAt (m .regs)) (checkpointAt p m))
 
 module _ (p : List ℕ) (m : Machine) (s : Sound p m) (h : 0 < m .regs .saving) where
   -- the write position behind the page
@@ -390,7 +393,7 @@ good-step {e} {table} {m} v r g _ =
     record {
       sound = facts-sound (step-sound e v m (accepted (e .program) (sym (r .accepted))) (sound-facts (g .sound)) (g .marks));
       most = rw (step-length e v m) (g .most);
-      whole = rw (step-length e v m, step-page e v m) (g .whole);
+      whole = rw (step-length e v m, step-kind e v m .0) (g .whole);
       cells = step-cells e v m ∙ g .cells;
       marks = step-marks e v m ∙ g .marks;
     }

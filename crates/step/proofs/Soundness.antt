@@ -24,12 +24,12 @@ use Rattle.program.proofs.PlaceLaws.{place-read}
 use Rattle.marks.specs.Marks.{toStore}
 use Rattle.marks.proofs.Laws.{stored-members}
 use Rattle.journal.specs.declared.Commit.{Commit}
-use Rattle.journal.specs.Format.{pagesIn, formatOf, image, padded}
+use Rattle.journal.specs.Format.{pagesIn, formatOf, kindOf, image, padded}
 use Rattle.journal.specs.Writing.{recordsOf, checkpointOf}
 use Rattle.journal.proofs.Paging.{fill-lt}
 use Rattle.journal.proofs.Decoding.{padded-length}
 use Rattle.journal.proofs.Written.{image-length}
-use Rattle.step.specs.State.{Machine, commitAt, checkpointAt, imageAt, sizeAt, zeroFrom, marksFrom, pagesSound, savingSound, kindsSound, soundOf}
+use Rattle.step.specs.State.{Machine, formatAt, commitAt, checkpointAt, imageAt, sizeAt, zeroFrom, marksFrom, pagesSound, savingSound, kindsSound, soundOf}
 use Rattle.step.specs.declared.Regs.{Regs}
 
 -- ---- the loops of `cells_clear` and `marks_clear`
@@ -112,23 +112,26 @@ members-most s c (suc k) =
     bool-cases (eqb (has s c) 1) (λ t. rw t (omega arith)) (λ t. rw t (omega arith))
 
 -- b is how many bytes a checkpoint of the set s has, whatever its values
-abbrev pub SizeIs : ℕ → List ℕ → (page : ℕ) → Type 0
-SizeIs b s page = (values : List ℕ) (c : Commit) → b ≡ length (padded (formatOf page) (checkpointOf s values c))
+abbrev pub SizeIs : ℕ → List ℕ → (page kind : ℕ) → Type 0
+SizeIs b s page kind = (owner : ℕ) (values : List ℕ) (c : Commit) → b ≡ length (padded (formatOf page kind owner) (checkpointOf s values c))
 
 -- 256 records, a commit and the filling at most
-pub size-most : (s : List ℕ) {b page : ℕ} → SizeIs b s page → 0 < page → page ≤ 16 → b ≤ 1565
+pub size-most : (s : List ℕ) {b page kind : ℕ} → SizeIs b s page kind → 0 < page → page ≤ 16 → kind ≤ 1 → b ≤ 1569
 unfolding members
-size-most s {page = page} h some few =
-    let none : Commit = record { place = 0; exclude = 0; readings = 0; outputs = 0 } in
+size-most s {page = page} {kind = kind} h some few two =
+    let none : Commit = record { place = 0; exclude = 0; readings = 0; outputs = 0; owner = 0 } in
     let x = checkpointOf s [] none in
-    omega (arith, h [] none, padded-length (formatOf page) x, fill-lt page (length (image x)) some, image-length s [] none, members-most s 0 256)
+    let G = formatOf page kind 0 in
+    omega (arith, h 0 [] none, padded-length G x, fill-lt page (length (image G x)) some, image-length G s [] none, members-most s 0 256)
 
 -- with the set of the present cells to store it is the size of the present save
-pub size-is : (p : List ℕ) (m : Machine) {s : List ℕ} {b : ℕ} → SetIs s (toStore (cellsOf p) (m .marks)) → SizeIs b s (m .regs .page) → b ≡ sizeAt p m
+pub size-is : (p : List ℕ) (m : Machine) {s : List ℕ} {b kind : ℕ} → kind ≡ kindOf (m .regs .owner) → SetIs s (toStore (cellsOf p) (m .marks)) → SizeIs b s (m .regs .page) kind
+    → b ≡ sizeAt p m
 unfolding sizeAt imageAt checkpointAt checkpointOf
-size-is p m is h =
-    h (m .cells) (commitAt p m)
-    ∙ ap (λ (cs : List ℕ). length (padded (formatOf (m .regs .page)) (record { records = recordsOf cs (m .cells); commit = commitAt p m }))) (stored-members (cellsOf p) (m .marks) is)
+size-is p m {s} ed is h =
+    h (m .regs .owner) (m .cells) (commitAt p m)
+    ∙ ap (λ (k : ℕ). length (padded (formatOf (m .regs .page) k (m .regs .owner)) (checkpointOf s (m .cells) (commitAt p m)))) ed
+    ∙ ap (λ (cs : List ℕ). length (padded (formatAt (m .regs)) (record { records = recordsOf cs (m .cells); commit = commitAt p m }))) (stored-members (cellsOf p) (m .marks) is)
 
 module _ (p : List ℕ) (m : Machine) where
   -- nothing is being saved

@@ -25,14 +25,15 @@ use Rattle.execution.specs.Effects.{target, readingsAfter, outputsAfter, stopAf
 use Rattle.marks.specs.Marks.{excludedMarks, savedMarks, toStore, storedFrom, storedCells}
 use Rattle.marks.proofs.Laws.{stored-members}
 use Rattle.journal.specs.declared.Commit.{Commit}
-use Rattle.journal.specs.Format.{formatOf, fillOf, image, padded}
+use Rattle.journal.specs.Format.{Format, formatOf, kindOf, fillOf, image, padded}
 use Rattle.journal.specs.Writing.{checkpointOf}
 use Rattle.journal.proofs.Paging.{whole-none, whole-next, fill-lt}
 use Rattle.journal.proofs.Padding.{ff-behind}
 use Rattle.journal.proofs.Decoding.{padded-length, padded-whole}
 use Rattle.journal.proofs.Written.{image-length}
+use Rattle.journal.proofs.Naming.{kind-most}
 use Rattle.step.specs.declared.Regs.{Regs}
-use Rattle.step.specs.State.{Env, envOf, Machine, machineOf, commitAt, checkpointAt, imageAt, sizeAt, fitsAt}
+use Rattle.step.specs.State.{Env, envOf, Machine, machineOf, formatAt, commitAt, checkpointAt, imageAt, sizeAt, fitsAt}
 use Rattle.step.specs.Step.{effectAt, isSaves, excludeAfter, marksAfter, performed, onJournal, begun, executedOf, erasedOf, storedOf, stepOf}
 use Rattle.step.specs.Ready.{Good, halted, emitted}
 use Rattle.step.proofs.Facts.{Sound, sound-facts}
@@ -104,14 +105,14 @@ module _ {to from n : ℕ} {image l₀ l : List ℕ} {i : ℕ} (q : Putting to f
   putting-done h f g = let k : n - i ≡ 0 = omega arith in rw k at (q .rest f g)
 
 -- what is stored of a checkpoint
-pub put-page : (page : ℕ) (s values : List ℕ) (c : Commit) (to from n : ℕ) (l₀ : List ℕ) {l : List ℕ}
-    → ((f : ℕ) → from + n ≤ length (image (checkpointOf s values c)) + f
-    → l ≡ seq.sets l₀ to (take n (drop from (image (checkpointOf s values c) ++ replicate f 0xFF))))
-    → from + n ≤ length (padded (formatOf page) (checkpointOf s values c))
-    → l ≡ seq.sets l₀ to (take n (drop from (padded (formatOf page) (checkpointOf s values c))))
+pub put-page : (G : Format) (s values : List ℕ) (c : Commit) (to from n : ℕ) (l₀ : List ℕ) {l : List ℕ}
+    → ((f : ℕ) → from + n ≤ length (image G (checkpointOf s values c)) + f
+    → l ≡ seq.sets l₀ to (take n (drop from (image G (checkpointOf s values c) ++ replicate f 0xFF))))
+    → from + n ≤ length (padded G (checkpointOf s values c))
+    → l ≡ seq.sets l₀ to (take n (drop from (padded G (checkpointOf s values c))))
 unfolding padded
-put-page page s values c to from n l₀ h g =
-    h (fillOf page (length (image (checkpointOf s values c)))) (omega (arith, padded-length (formatOf page) (checkpointOf s values c)))
+put-page G s values c to from n l₀ h g =
+    h (fillOf (G .page) (length (image G (checkpointOf s values c)))) (omega (arith, padded-length G (checkpointOf s values c)))
 
 -- ---- the instruction, by its effect
 
@@ -128,6 +129,7 @@ onProgram r t x n k s =
       erase = r .erase;
       saving = r .saving;
       page = r .page;
+      owner = r .owner;
     }
 
 -- unless it begins a save, the effect f is performed
@@ -226,40 +228,43 @@ stored-few n ms c (suc k) =
 
 module _ (p : List ℕ) (r : Regs) (xs ms l : List ℕ) {s : List ℕ} {n : ℕ} (en : n ≡ cellsOf p) (h : SetIs s (toStore n ms)) where
   -- the checkpoint of the set of cells to store is that of the state; t is the place that it has
-  pub image-same : {t : ℕ} → t ≡ nextOf p (r .pc)
-      → padded (formatOf (r .page)) (checkpointOf s xs (record { place = t; exclude = r .exclude; readings = r .readings; outputs = r .outputs }))
+  pub image-same : {t kind : ℕ} → t ≡ nextOf p (r .pc) → kind ≡ kindOf (r .owner)
+      → padded (formatOf (r .page) kind (r .owner)) (checkpointOf s xs (record { place = t; exclude = r .exclude; readings = r .readings; outputs = r .outputs; owner = r .owner }))
       ≡ imageAt p (machineOf r xs ms l)
   unfolding checkpointOf checkpointAt imageAt
-  image-same et = rw (stored-members n ms h, en, et)
+  image-same et ed = rw (stored-members n ms h, en, et, ed)
 
   -- k is its size, b whether it fits
-  pub size-same : {k : ℕ} → ((values : List ℕ) (c : Commit) → k ≡ length (padded (formatOf (r .page)) (checkpointOf s values c))) → k ≡ sizeAt p (machineOf r xs ms l)
+  pub size-same : {k kind : ℕ} → kind ≡ kindOf (r .owner)
+      → ((owner : ℕ) (values : List ℕ) (c : Commit) → k ≡ length (padded (formatOf (r .page) kind owner) (checkpointOf s values c))) → k ≡ sizeAt p (machineOf r xs ms l)
   unfolding sizeAt
-  size-same f = f xs (commitAt p (machineOf r xs ms l)) ∙ ap length (image-same refl)
+  size-same ed f = f (r .owner) xs (commitAt p (machineOf r xs ms l)) ∙ ap length (image-same refl ed)
 
-  pub fits-same : {b : Bool} → ((values : List ℕ) (c : Commit) → b ≡ leb (r .write + length (padded (formatOf (r .page)) (checkpointOf s values c))) (length l))
+  pub fits-same : {b : Bool} {kind : ℕ} → kind ≡ kindOf (r .owner)
+      → ((owner : ℕ) (values : List ℕ) (c : Commit) → b ≡ leb (r .write + length (padded (formatOf (r .page) kind owner) (checkpointOf s values c))) (length l))
       → b ≡ fitsAt p (machineOf r xs ms l)
   unfolding sizeAt
-  fits-same f = f xs (commitAt p (machineOf r xs ms l)) ∙ ap (λ (q : List ℕ). leb (r .write + length q) (length l)) (image-same refl)
+  fits-same ed f = f (r .owner) xs (commitAt p (machineOf r xs ms l)) ∙ ap (λ (q : List ℕ). leb (r .write + length q) (length l)) (image-same refl ed)
 
-  pub size-small : 0 < r .page → r .page ≤ 16 → sizeAt p (machineOf r xs ms l) ≤ 1565
+  pub size-small : 0 < r .page → r .page ≤ 16 → sizeAt p (machineOf r xs ms l) ≤ 1569
   unfolding sizeAt storedCells
   size-small some few =
       let c = commitAt p (machineOf r xs ms l) in
-      let e = image-length s xs c in
-      let d = padded-length (formatOf (r .page)) (checkpointOf s xs c) in
-      let z = fill-lt (r .page) (length (image (checkpointOf s xs c))) some in
-      let f = ap length (image-same refl) in
+      let e = image-length (formatAt r) s xs c in
+      let o = kind-most (r .owner) in
+      let d = padded-length (formatAt r) (checkpointOf s xs c) in
+      let z = fill-lt (r .page) (length (image (formatAt r) (checkpointOf s xs c))) some in
+      let f = ap length (image-same refl refl) in
       let g = ap length (stored-members n ms h) in
       let i = stored-few n ms 0 256 in
       omega arith
 
-  module _ {t k : ℕ} {l′ : List ℕ} (q : byte p (r .pc) ≡ 0x0E) (et : t ≡ r .pc + lengthOf 0x0E)
-      (eb : (page : ℕ)
-      → r .saving - 1 + r .page ≤ length (padded (formatOf page) (checkpointOf s xs (record { place = t; exclude = r .exclude; readings = r .readings; outputs = r .outputs })))
+  module _ {t k kind : ℕ} {l′ : List ℕ} (ed : kind ≡ kindOf (r .owner)) (q : byte p (r .pc) ≡ 0x0E) (et : t ≡ r .pc + lengthOf 0x0E)
+      (eb : (page owner : ℕ)
+      → r .saving - 1 + r .page ≤ length (padded (formatOf page kind owner) (checkpointOf s xs (record { place = t; exclude = r .exclude; readings = r .readings; outputs = r .outputs; owner = r .owner })))
       → l′ ≡ seq.sets l (r .write) (take (r .page) (drop (r .saving - 1)
-      (padded (formatOf page) (checkpointOf s xs (record { place = t; exclude = r .exclude; readings = r .readings; outputs = r .outputs }))))))
-      (ek : (values : List ℕ) (c : Commit) → k ≡ length (padded (formatOf (r .page)) (checkpointOf s values c)))
+      (padded (formatOf page kind owner) (checkpointOf s xs (record { place = t; exclude = r .exclude; readings = r .readings; outputs = r .outputs; owner = r .owner }))))))
+      (ek : (owner : ℕ) (values : List ℕ) (c : Commit) → k ≡ length (padded (formatOf (r .page) kind owner) (checkpointOf s values c)))
       (room : r .saving - 1 + r .page ≤ sizeAt p (machineOf r xs ms l)) where
     next-same : t ≡ nextOf p (r .pc)
     next-same = rw q et
@@ -267,18 +272,18 @@ module _ (p : List ℕ) (r : Regs) (xs ms l : List ℕ) {s : List ℕ} {n : ℕ}
     page-same : l′ ≡ seq.sets l (r .write) (take (r .page) (drop (r .saving - 1) (imageAt p (machineOf r xs ms l))))
     unfolding sizeAt
     page-same =
-        let i = image-same next-same in
-        eb (r .page) (omega (arith, ap length i)) ∙ ap (λ (x : List ℕ). seq.sets l (r .write) (take (r .page) (drop (r .saving - 1) x))) i
+        let i = image-same next-same ed in
+        eb (r .page) (r .owner) (omega (arith, ap length i)) ∙ ap (λ (x : List ℕ). seq.sets l (r .write) (take (r .page) (drop (r .saving - 1) x))) i
 
     pub stores-last : {zs : List ℕ} → r .saving - 1 + r .page ≡ k → zs ≡ savedMarks n ms
         → machineOf (onJournal r t (r .write + r .page) (r .erase) 0) xs zs l′ ≡ storedOf p (machineOf r xs ms l)
     unfolding storedOf
-    stores-last f ez = rw (eq-eqb _ _ (f ∙ size-same ek), ← page-same, ← next-same, ← en, ← ez)
+    stores-last f ez = rw (eq-eqb _ _ (f ∙ size-same ed ek), ← page-same, ← next-same, ← en, ← ez)
 
     pub stores-next : (r .saving - 1 + r .page ≡ k → ⊥)
         → machineOf (onJournal r (r .pc) (r .write + r .page) (r .erase) (r .saving + r .page)) xs ms l′ ≡ storedOf p (machineOf r xs ms l)
     unfolding storedOf
-    stores-next f = rw (ne-eqb _ _ (λ g. f (g ∙ sym (size-same ek))), ← page-same)
+    stores-next f = rw (ne-eqb _ _ (λ g. f (g ∙ sym (size-same ed ek))), ← page-same)
 
 -- what `store_one` needs of the numbers
 pub record Storing (p : List ℕ) (m : Machine) : Type 0 where
@@ -301,7 +306,7 @@ pub page-left : (p : List ℕ) (m : Machine) → Sound p m → 0 < m .regs .savi
 unfolding sizeAt imageAt
 page-left p m f k =
     let s = f .saves k in
-    whole-next (m .regs .page) (m .regs .saving - 1) (sizeAt p m) (s .whole) (padded-whole (formatOf (m .regs .page)) (f .paged .some) (checkpointAt p m)) (s .stored)
+    whole-next (m .regs .page) (m .regs .saving - 1) (sizeAt p m) (s .whole) (padded-whole (formatAt (m .regs)) (f .paged .some) (checkpointAt p m)) (s .stored)
 
 pub storing : (p : List ℕ) (m : Machine) → Good p m → length p ≤ 2048 → 0 < m .regs .saving → Storing p m
 storing p m g l k =

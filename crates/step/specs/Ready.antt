@@ -50,6 +50,7 @@ halted r k =
       erase = r .erase;
       saving = r .saving;
       page = r .page;
+      owner = r .owner;
     }
 
 abbrev pub emitted : Regs → Regs
@@ -65,4 +66,5 @@ emitted r =
       erase = r .erase;
       saving = r .saving;
       page = r .page;
+      owner = r .owner;
     })

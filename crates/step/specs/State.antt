@@ -10,7 +10,7 @@ use Rattle.program.specs.Places.{isStart, isExclude}
 use Rattle.execution.specs.Effects.{nextOf}
 use Rattle.marks.specs.Marks.{storedCells}
 use Rattle.journal.specs.declared.Commit.{Commit}
-use Rattle.journal.specs.Format.{Checkpoint, formatOf, pagesIn, padded}
+use Rattle.journal.specs.Format.{Format, Checkpoint, formatFor, pagesIn, padded}
 use Rattle.journal.specs.Writing.{recordsOf}
 use Rattle.step.specs.declared.Regs.{Regs}
 
@@ -33,7 +33,7 @@ abbrev pub machineOf : Regs → (cells marks journal : List ℕ) → Machine
 machineOf r xs ms l = record { regs = r; cells = xs; marks = ms; journal = l }
 
 -- the checkpoint of the present state: "for each Include or Pending cell that exists", and "offset after the CHECKPOINT, offset of the last EXCLUDE executed
--- or 0, readings taken, outputs given"
+-- or 0, readings taken, outputs given", and the owner, "plan length, sum of all plan bytes", where MARKs name one
 abbrev pub commitAt : List ℕ → Machine → Commit
 commitAt p m =
     record {
@@ -41,14 +41,19 @@ commitAt p m =
       exclude = m .regs .exclude;
       readings = m .regs .readings;
       outputs = m .regs .outputs;
+      owner = m .regs .owner;
     }
 
 unfoldable pub checkpointAt : List ℕ → Machine → Checkpoint
 checkpointAt p m = record { records = recordsOf (storedCells (cellsOf p) (m .marks)) (m .cells); commit = commitAt p m }
 
+-- how the chip is written
+abbrev pub formatAt : Regs → Format
+formatAt r = formatFor (r .page) (r .owner)
+
 -- its bytes as they are stored, the last page filled, and how many
 unfoldable pub imageAt : List ℕ → Machine → List ℕ
-imageAt p m = padded (formatOf (m .regs .page)) (checkpointAt p m)
+imageAt p m = padded (formatAt (m .regs)) (checkpointAt p m)
 
 unfoldable pub sizeAt : List ℕ → Machine → ℕ
 sizeAt p m = length (imageAt p m)

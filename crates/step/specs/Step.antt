@@ -66,6 +66,7 @@ performed e f m =
             erase = r .erase;
             saving = r .saving;
             page = r .page;
+            owner = r .owner;
           };
       cells = cellsAfter f (m .cells);
       marks = marksAfter e f (r .pc) (m .marks);
@@ -85,6 +86,7 @@ onJournal r t w x k =
       erase = x;
       saving = k;
       page = r .page;
+      owner = r .owner;
     }
 
 -- "CHECKPOINT's step finds whether the save fits"; if so, "each following step stores its next byte"

@@ -16,6 +16,7 @@ use instruction::opcodes::EXCLUDE;
 use instruction::opcodes::READ;
 use journal::Commit;
 use journal::ERASED;
+use journal::owners::kind_of;
 use journal::writing::fits;
 use journal::writing::image_byte;
 use journal::writing::size;
@@ -41,9 +42,9 @@ ghost use Rattle.step.specs.Ready.{Ready, Good, halted, emitted};
 
 // The registers: the place (offset of the instruction due), the last EXCLUDE executed or 0, the readings
 // taken and the outputs given, the kind of stop, the write position, the bytes to erase, and 0 or one more
-// than the bytes stored of the save at work. The last one is no part of the state that a host lends: it
-// says for which kind of chip the call is, by the bytes that a step stores or erases, 1 for the byte chip
-// and 16 for the page chip.
+// than the bytes stored of the save at work. The last two are no part of the state that a host lends: they
+// say for which kind of chip the call is, by the bytes that a step stores or erases, 1 for the byte chip and
+// 16 for the page chip, and the owner that its MARKs name, 0 for the MARKs of document 01, which name none.
 pub struct Regs {
     pub pc: u32,
     pub exclude: u32,
@@ -54,6 +55,7 @@ pub struct Regs {
     pub erase: u32,
     pub saving: u32,
     pub page: usize,
+    pub owner: u32,
 }
 
 // The state: the registers, the cells' patterns and their marks' bytes.
@@ -113,15 +115,16 @@ fn put_bytes(
     s: CellSet,
     cells: &[u32; 256],
     commit: Commit,
+    kind: usize,
     from: usize,
     n: usize,
 )
-    requires { ⌜ (to + n ≤ length (now journal)) × (length (now journal) ≤ 65536) × (from + n ≤ 65536) ⌝ }
-    ensures { λ _. ⌜ ((page : ℕ) → from + n ≤ length (padded (formatOf page) (checkpointOf (s .words) (now (cells .entry)) commit)) → now (journal .exit) ≡ sets (now (journal .entry)) to (take n (drop from (padded (formatOf page) (checkpointOf (s .words) (now (cells .entry)) commit))))) ⌝ }
+    requires { ⌜ (to + n ≤ length (now journal)) × (length (now journal) ≤ 65536) × (from + n ≤ 65536) × (kind ≤ 1) ⌝ }
+    ensures { λ _. ⌜ ((page owner : ℕ) → from + n ≤ length (padded (formatOf page kind owner) (checkpointOf (s .words) (now (cells .entry)) commit)) → now (journal .exit) ≡ sets (now (journal .entry)) to (take n (drop from (padded (formatOf page kind owner) (checkpointOf (s .words) (now (cells .entry)) commit))))) ⌝ }
 {
     let mut i: usize = 0;
     while i < n {
-        journal[to + i] = image_byte(s, cells, commit, from + i);
+        journal[to + i] = image_byte(s, cells, commit, kind, from + i);
         i += 1;
     }
 }
@@ -145,12 +148,23 @@ fn store_one(
         exclude: r.exclude as u16,
         readings: r.readings,
         outputs: r.outputs,
+        owner: r.owner,
     };
+    let kind = kind_of(r.owner);
     let page = r.page;
     let from = r.saving as usize - 1;
-    put_bytes(journal, r.write as usize, s, cells, commit, from, page);
+    put_bytes(
+        journal,
+        r.write as usize,
+        s,
+        cells,
+        commit,
+        kind,
+        from,
+        page,
+    );
     r.write += page as u32;
-    if from + page == size(s, page) {
+    if from + page == size(s, page, kind) {
         keep(marks, n);
         r.pc = next;
         r.saving = 0;
@@ -220,7 +234,7 @@ fn begin_save(mut r: Regs, p: &[u8], marks: &[u8; 256], journal: &[u8]) -> Regs
     ensures { λ q. ⌜ ((v : ℤ) (ws xs : List ℕ) → machineOf q xs (now (marks .entry)) (now (journal .entry)) ≡ executedOf (envOf (now (p .entry)) ws) v (machineOf r xs (now (marks .entry)) (now (journal .entry)))) ⌝ }
 {
     let s = stored_cells(marks, cell_count(p));
-    if fits(s, r.write as usize, journal.len(), r.page) {
+    if fits(s, r.write as usize, journal.len(), r.page, kind_of(r.owner)) {
         r.saving = 1;
         return r;
     }

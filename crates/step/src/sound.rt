@@ -1,6 +1,7 @@
 // Whether a state is sound: document 01's list, each part as `soundOf` of specs/State.antt has it.
 use crate::Regs;
 use instruction::opcodes::CHECKPOINT;
+use journal::owners::kind_of;
 use journal::pages::is_whole;
 use journal::writing::size;
 use marks::stored_cells;
@@ -106,7 +107,11 @@ fn saving_sound(r: Regs, p: &[u8], cells: &[u32; 256], marks: &[u8; 256], len: u
         return false;
     }
     let page = r.page;
-    let bytes = size(stored_cells(marks, p[0] as usize + 1), page);
+    let bytes = size(
+        stored_cells(marks, p[0] as usize + 1),
+        page,
+        kind_of(r.owner),
+    );
     let stored = r.saving as usize - 1;
     if bytes <= stored {
         return false;

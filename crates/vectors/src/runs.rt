@@ -1,6 +1,7 @@
 // Rows about runs. A row gives how the run ended (1 to 3 a stop and its kind, 4 budget spent, 5 no reading left, 6
 // output buffer full, or `refused` and the number), its steps, readings taken and outputs written, the
 // outputs, and the bytes of the chip; for document 001's programs, the number of its cells and of those in each save.
+use journal::owners::owner_of;
 use libc::STDOUT_FILENO;
 use run::Ended;
 use run::run_value;
@@ -58,8 +59,8 @@ fn bytes(chip: &[u8]) {
     }
 }
 
-// What recovery leaves on an erased chip, with this write position and these counts.
-pub fn state(write: u32, readings: u32, outputs: u32) -> State {
+// What recovery leaves on an erased byte chip for a plan, with this write position and these counts.
+pub fn state(plan: &[u8], write: u32, readings: u32, outputs: u32) -> State {
     State {
         regs: Regs {
             pc: 1,
@@ -71,6 +72,7 @@ pub fn state(write: u32, readings: u32, outputs: u32) -> State {
             erase: 0,
             saving: 0,
             page: 1,
+            owner: owner_of(plan),
         },
         cells: [0u32; 256],
         marks: [0u8; 256],
@@ -113,14 +115,19 @@ fn small(name: &[u8], chip: &mut [u8], readings: &[i32], outputs: &mut [i32], bu
         b"\x02\x02\x00\x00\x00\x00\x00\x07\x01\x04\x00\x00\x01\x08\x00\x0D\x0E\x09\x07\x00",
         512,
         chip,
-        state(0, 0, 0),
+        state(
+            b"\x02\x02\x00\x00\x00\x00\x00\x07\x01\x04\x00\x00\x01\x08\x00\x0D\x0E\x09\x07\x00",
+            0,
+            0,
+            0,
+        ),
         readings,
         outputs,
         budget,
     );
 }
 
-// The small plan: its outputs, its first save, and the chips of 20 and 19 bytes.
+// The small plan: its outputs, its first save, and the chips of 24 and 23 bytes.
 fn saves() {
     let mut outputs = [0i32; 3];
     let mut none = [0xffu8; 0];
@@ -132,11 +139,11 @@ fn saves() {
         1000,
     );
     let mut output = [0i32; 1];
-    let mut chip = [0xffu8; 20];
-    small(b"20 bytes of chip", &mut chip, &[5], &mut output, 1000);
-    let mut short = [0xffu8; 19];
-    small(b"19 bytes of chip", &mut short, &[5], &mut output, 1000);
-    let mut long = [0xffu8; 40];
+    let mut chip = [0xffu8; 24];
+    small(b"24 bytes of chip", &mut chip, &[5], &mut output, 1000);
+    let mut short = [0xffu8; 23];
+    small(b"23 bytes of chip", &mut short, &[5], &mut output, 1000);
+    let mut long = [0xffu8; 48];
     let mut two = [0i32; 3];
     small(b"cut inside a save", &mut long, &[5, 7], &mut two, 40);
 }
@@ -161,7 +168,7 @@ fn plain(name: &[u8], plan: &[u8], readings: u32, outputs: u32) {
         plan,
         512,
         &mut none,
-        state(0, readings, outputs),
+        state(plan, 0, readings, outputs),
         &[3],
         &mut given,
         100,
@@ -209,7 +216,7 @@ fn refusals() {
         b"\x00\x01",
         511,
         &mut none,
-        state(0, 0, 0),
+        state(b"\x00\x01", 0, 0, 0),
         &[],
         &mut given,
         1,
@@ -219,7 +226,7 @@ fn refusals() {
         b"\x00\x01",
         512,
         &mut none,
-        state(1, 0, 0),
+        state(b"\x00\x01", 1, 0, 0),
         &[],
         &mut given,
         1,
@@ -230,7 +237,7 @@ fn refusals() {
         b"\x00\x01",
         512,
         &mut long,
-        state(0, 0, 0),
+        state(b"\x00\x01", 0, 0, 0),
         &[],
         &mut given,
         1,
@@ -242,14 +249,14 @@ fn sizes(chip: &[u8]) {
     io::write_all(STDOUT_FILENO, b" cells");
     let mut at: usize = 0;
     let mut cells: u64 = 0;
-    while at + 14 <= chip.len() {
+    while at + 18 <= chip.len() {
         if chip[at] == 0xa1 {
             cells += 1;
             at += 6;
-        } else if chip[at] == 0xa2 {
+        } else if chip[at] == 0xa3 {
             number(cells);
             cells = 0;
-            at += 14;
+            at += 18;
         } else {
             return;
         }
@@ -264,7 +271,7 @@ pub fn program(name: &[u8], plan: &[u8], readings: &[i32]) {
     let mut chip = [0xffu8; 8000];
     let mut outputs = [0i32; 25];
     let r = run_value(
-        state(0, 0, 0),
+        state(plan, 0, 0, 0),
         plan,
         &sets,
         &mut chip,

@@ -1,15 +1,18 @@
 //! Folding in plain Rust, as one would write it who wants it fast but simple: the old chip is read
-//! as recovery reads it, the bytes of the save are made in one go, and those due are copied.
+//! as recovery reads it, or with A2 marks, the bytes of the save are made in one go, and those due are
+//! copied.
 
 use reference::folding::Folded;
-use reference::journal::{BYTE_CHIP, ERASED, MARK, MARK_END, MAX_CHIP, RECORD};
-use reference::refusal::{BUFFER_TOO_SHORT, CHIP_LENGTH, NEW_CHIP_DIFFERS, SAVE_TOO_LONG};
+use reference::journal::{BYTE_CHIP, ERASED, MARK_A3, MARK_END, MAX_CHIP, RECORD};
+use reference::refusal::{
+    BUFFER_TOO_SHORT, CHIP_LENGTH, NEW_CHIP_DIFFERS, OTHER_PLAN, SAVE_TOO_LONG,
+};
 
 use crate::baseline::{check, SET_WORDS};
-use crate::journals::{read, Held};
+use crate::journals::{owner, read, Held, MARK_LEN};
 
 /// The most bytes that a save has.
-pub const MAX_SAVE: usize = 6 * 256 + 14;
+pub const MAX_SAVE: usize = 6 * 256 + MARK_LEN;
 
 /// Stores the next bytes on the new chip, or gives the refusal.
 pub fn fold(
@@ -27,9 +30,13 @@ pub fn fold(
     if old.len() > MAX_CHIP || new.len() > MAX_CHIP {
         return Err(CHIP_LENGTH);
     }
-    let held = read::<BYTE_CHIP>(plan, cells, old)?;
+    let owner = owner(plan);
+    let held = read::<BYTE_CHIP>(plan, cells, old, owner)?;
+    if held.is_other {
+        return Err(OTHER_PLAN);
+    }
     let mut bytes = [0; MAX_SAVE];
-    let save = make_save(&held, &mut bytes);
+    let save = make_save(&held, owner, &mut bytes);
     if stored > save.len().min(new.len()) as u64 {
         return Err(NEW_CHIP_DIFFERS);
     }
@@ -54,7 +61,7 @@ fn is_blank(bytes: &[u8]) -> bool {
 }
 
 /// Makes the save of what the old chip holds, which is empty where it has no whole one.
-fn make_save<'a>(held: &Held, bytes: &'a mut [u8; MAX_SAVE]) -> &'a [u8] {
+fn make_save<'a>(held: &Held, owner: u32, bytes: &'a mut [u8; MAX_SAVE]) -> &'a [u8] {
     if held.end == 0 {
         return &[];
     }
@@ -66,12 +73,13 @@ fn make_save<'a>(held: &Held, bytes: &'a mut [u8; MAX_SAVE]) -> &'a [u8] {
             end += 6;
         }
     }
-    let mark = &mut bytes[end..end + 14];
-    mark[0] = MARK;
+    let mark = &mut bytes[end..end + MARK_LEN];
+    mark[0] = MARK_A3;
     mark[1..3].copy_from_slice(&held.last.place.to_le_bytes());
     mark[3..5].copy_from_slice(&held.last.exclude.to_le_bytes());
     mark[5..9].copy_from_slice(&held.last.readings.to_le_bytes());
     mark[9..13].copy_from_slice(&held.last.outputs.to_le_bytes());
-    mark[13] = MARK_END;
-    &bytes[..end + 14]
+    mark[13..17].copy_from_slice(&owner.to_le_bytes());
+    mark[17] = MARK_END;
+    &bytes[..end + MARK_LEN]
 }

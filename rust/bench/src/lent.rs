@@ -9,7 +9,7 @@ use reference::refusal::{BUFFER_TOO_SHORT, CHIP_LENGTH, STATE_NOT_SOUND};
 
 use crate::baseline::{analyse, check, SET_WORDS};
 use crate::folding::fold;
-use crate::journals::read;
+use crate::journals::{owner, read_for_recovery};
 use crate::machine::{Lent, Machine, DEAD, INCLUDE, KEPT};
 
 /// The marks stand after the cells, and after them the eight numbers.
@@ -30,8 +30,9 @@ pub fn recover<const PAGE: usize>(
     if state.len() != STATE_BYTES {
         return Err(STATE_NOT_SOUND);
     }
-    let held = read::<PAGE>(plan, cell_count, chip)?;
-    let mut machine = Machine::<PAGE>::first(plan, cell_count);
+    let owner = owner(plan);
+    let held = read_for_recovery::<PAGE>(plan, cell_count, chip, owner)?;
+    let mut machine = Machine::<PAGE>::first(plan, cell_count, owner);
     machine.cells = held.values.map(|value| value as i32);
     machine.place = held.last.place.into();
     machine.exclude = held.last.exclude.into();
@@ -68,7 +69,7 @@ impl<'a, const PAGE: usize> Machine<'a, PAGE> {
         if bytes.len() != STATE_BYTES {
             return None;
         }
-        let mut machine = Machine::first(plan, cell_count);
+        let mut machine = Machine::first(plan, cell_count, owner(plan));
         let (cells, _) = bytes[..MARKS_AT].as_chunks();
         for (cell, bytes) in machine.cells.iter_mut().zip(cells) {
             *cell = i32::from_le_bytes(*bytes);

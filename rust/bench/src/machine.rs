@@ -5,11 +5,13 @@
 use std::array::from_fn;
 
 use differential::call::Ran;
-use reference::journal::{ERASED, MARK, MARK_END, PAGE_CHIP, RECORD};
+use reference::journal::{ERASED, MARK_A3, MARK_END, PAGE_CHIP, RECORD};
 use reference::program::{
     ADD, CHECKPOINT, COPY, DIV, EMIT, END, EXCLUDE, FIRST_INSTRUCTION, GET, JUMP, LENGTHS, LESS,
     MAX_BYTES, PUT, READ, SET, SUB,
 };
+
+use crate::journals::MARK_LEN;
 
 pub(crate) const INCLUDE: u8 = 0;
 pub(crate) const PENDING: u8 = 1;
@@ -44,12 +46,14 @@ impl Map {
 }
 
 /// The most bytes that a save has, its last page filled.
-const MAX_SAVE: usize = (6 * 256 + 14_usize).next_multiple_of(PAGE_CHIP);
+const MAX_SAVE: usize = (6 * 256 + MARK_LEN).next_multiple_of(PAGE_CHIP);
 
 /// The state, for a chip of pages of so many bytes. While it saves, `stored` says how many bytes of the save stand on the
 /// chip.
 pub(crate) struct Machine<'a, const PAGE: usize> {
     pub(crate) plan: &'a [u8],
+    /// By what its marks name the plan.
+    pub(crate) owner: u32,
     pub(crate) map: Map,
     pub(crate) cell_count: usize,
     pub(crate) cells: [i32; 256],
@@ -75,9 +79,10 @@ pub struct Lent<'a> {
 }
 
 impl<'a, const PAGE: usize> Machine<'a, PAGE> {
-    pub(crate) fn first(plan: &'a [u8], cell_count: usize) -> Self {
+    pub(crate) fn first(plan: &'a [u8], cell_count: usize, owner: u32) -> Self {
         Machine {
             plan,
+            owner,
             map: Map::of(plan),
             cell_count,
             cells: [0; 256],
@@ -229,7 +234,7 @@ impl<const PAGE: usize> Machine<'_, PAGE> {
     pub(crate) fn save_len(&self) -> usize {
         let stored = |mark: &&u8| **mark <= PENDING;
         let records = self.marks[..self.cell_count].iter().filter(stored).count();
-        (6 * records + 14).next_multiple_of(PAGE)
+        (6 * records + MARK_LEN).next_multiple_of(PAGE)
     }
 
     fn checkpoint(&mut self, chip: usize) {
@@ -250,11 +255,12 @@ impl<const PAGE: usize> Machine<'_, PAGE> {
             let [v0, v1, v2, v3] = self.cells[cell].to_le_bytes();
             put(&[RECORD, cell as u8, v0, v1, v2, v3]);
         }
-        put(&[MARK]);
+        put(&[MARK_A3]);
         put(&(self.place as u16 + 1).to_le_bytes());
         put(&(self.exclude as u16).to_le_bytes());
         put(&self.readings.to_le_bytes());
         put(&self.outputs.to_le_bytes());
+        put(&self.owner.to_le_bytes());
         put(&[MARK_END]);
         at.next_multiple_of(PAGE)
     }

@@ -3,7 +3,7 @@
 use differential::buffer::Buffer;
 use differential::call::{number_bytes, sets_of, words, Call, Callee, Entry};
 use differential::examples::SMALL;
-use reference::journal::{BYTE_CHIP, ERASED, MAX_CHIP, PAGE_CHIP};
+use reference::journal::{Kind, BYTE_CHIP, ERASED, MAX_CHIP, PAGE_CHIP};
 use reference::layout::STATE_BYTES;
 use reference::machine::{Ended, Machine, State};
 use reference::program::{
@@ -11,7 +11,7 @@ use reference::program::{
 };
 
 use crate::baseline::SET_WORDS;
-use crate::journals::{byte_chips, page_chips, PLAN};
+use crate::journals::{byte_chips, page_chips, MARK_LEN, PLAN};
 use crate::lent::Plain;
 use crate::plans::plans;
 
@@ -63,7 +63,7 @@ const SAVES_AT: u32 = 2;
 
 /// The bytes of a save of so many cells.
 fn save_len(cells: usize) -> u64 {
-    6 * cells as u64 + 14
+    6 * cells as u64 + MARK_LEN as u64
 }
 
 /// The steps in which `saves` fills a page chip of the greatest length: three commands and the pages of each save.
@@ -202,10 +202,11 @@ fn sums() -> Vec<u8> {
     [vec![15], set(0, 1), adds, again].concat()
 }
 
-/// The chip of the greatest length that a run of this plan leaves, full of saves.
-fn full_chip(plan: &[u8], sets: &[u64]) -> Vec<u8> {
+/// The chip of the greatest length that a run of this plan leaves, full of saves with such marks.
+fn full_chip(plan: &[u8], sets: &[u64], kind: Kind) -> Vec<u8> {
     let mut chip = vec![ERASED; MAX_CHIP];
-    let machine = Machine::new(plan, sets, BYTE_CHIP).expect("plan and sets are accepted");
+    let machine = Machine::of_kind(plan, sets, BYTE_CHIP, kind);
+    let machine = machine.expect("plan and sets are accepted");
     let ran = machine.run(&mut chip, &mut State::first(), &[], 0, 100_000);
     ran.expect("the first state is sound");
     chip
@@ -215,21 +216,24 @@ fn full_chip(plan: &[u8], sets: &[u64]) -> Vec<u8> {
 const MIDDLE: u64 = 50;
 
 /// Folds of a full chip onto a blank one of the greatest length, with their names: the whole save,
-/// and one byte in the middle of it.
+/// one byte in the middle of it, and the whole save of a chip with A2 marks.
 pub fn folds() -> Vec<(&'static str, Call)> {
     let plan = sums();
     let sets = sets_of(&plan);
-    let old = full_chip(&plan, &sets);
     let blank = vec![ERASED; MAX_CHIP];
-    let whole = Call {
+    let [of_a2, whole] = Kind::ALL.map(|kind| Call {
         budget: u64::MAX,
-        ..Call::fold(&plan, &sets, &old, &blank)
-    };
+        ..Call::fold(&plan, &sets, &full_chip(&plan, &sets, kind), &blank)
+    });
     let mut one = Call {
         budget: MIDDLE,
         ..whole.clone()
     };
     assert_eq!(Plain.answer(&mut one), 0, "the fold is accepted");
     (one.stored, one.budget) = (MIDDLE, 1);
-    vec![("a full chip", whole), ("a full chip, 1 byte", one)]
+    vec![
+        ("a full chip", whole),
+        ("a full chip, 1 byte", one),
+        ("a full chip, A2 marks", of_a2),
+    ]
 }

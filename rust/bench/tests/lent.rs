@@ -15,14 +15,14 @@ fn calls_from_seeds() {
             Entry::Analyse => 1_000,
             _ => 20_000,
         };
-        let mut hits = [0; 15];
+        let mut hits = [0; 17];
         for seed in 0..calls {
             let call = seeded(entry, seed).call;
             let (result, _) = agree(&Plain, &call)
                 .unwrap_or_else(|difference| panic!("{entry:?} {seed}: {difference}"));
             hits[result as usize] += 1;
         }
-        println!("{entry:?} with the answers 0 to 14: {hits:?}");
+        println!("{entry:?} with the answers 0 to 16: {hits:?}");
         let mut results = entry.refusals().chain([0]);
         assert!(results.all(|result| hits[result] >= 5));
     }
@@ -69,8 +69,8 @@ fn the_long_runs_do_what_their_names_say() {
     assert_eq!((ran.ended, ran.taken, ran.given), (4, 30_000, 30_000));
     // So many saves fill all pages but fewer than one more has.
     for (name, saves) in [
-        ("saves of 256 cells, pages", 42),
-        ("saves of 16 cells, pages", 585),
+        ("saves of 256 cells, pages", 41),
+        ("saves of 16 cells, pages", 512),
     ] {
         let left = left(name);
         let held = read(left.plan.lent(), left.chip.lent(), PAGE_CHIP).expect(name);
@@ -81,13 +81,17 @@ fn the_long_runs_do_what_their_names_say() {
 #[test]
 fn the_folds_do_what_their_names_say() {
     // The whole save has all 16 cells, and each after the first has all but the first cell.
-    let of = |cells: usize| 6 * cells + 14;
-    let answers = [(of(16) as u64, 1), (51, 0)];
-    for ((name, call), answer) in folds().into_iter().zip(answers) {
+    let of = |cells: usize, mark: usize| 6 * cells + mark;
+    let answers = [(of(16, 18) as u64, 1), (51, 0), (of(16, 18) as u64, 1)];
+    let marks = [18, 18, 14];
+    let folds = folds();
+    assert_eq!(folds.len(), answers.len());
+    for (((name, call), answer), mark) in folds.into_iter().zip(answers).zip(marks) {
         let held = read(call.plan.lent(), call.chip.lent(), BYTE_CHIP).expect(name);
-        let room = MAX_CHIP - of(16);
-        let saves = 1 + room / of(15);
+        let room = MAX_CHIP - of(16, mark);
+        let saves = 1 + room / of(15, mark);
         assert_eq!((held.saves.len(), held.torn), (saves, 0), "{name}");
+        assert_eq!(held.last().kind().mark_len(), mark, "{name}");
         let folded = agree(&Plain, &call).expect(name).1.folded();
         assert_eq!((folded.stored, folded.finished), answer, "{name}");
     }

@@ -4,12 +4,13 @@
 
 use reference::analysis::analyse_with;
 use reference::folding::Folded;
-use reference::journal::{read, ERASED, MARK_END};
+use reference::journal::{owner, read, read_as, Kind, ERASED, MARK_END};
 use reference::machine::{Ended, Mark, State, Stop};
 use reference::program::{Instruction, CHECKPOINT, EXCLUDE};
-use reference::refusal::{CHIP_DAMAGED, STATE_NOT_SOUND};
+use reference::refusal::{CHIP_DAMAGED, OLD_MARKS, OTHER_PLAN, STATE_NOT_SOUND};
 
-use crate::engine::{fill, Engine, Lent, LentFold, Ran};
+use crate::engine::{fill, Engine, Lent, LentFold, Ran, UNTIL};
+use crate::marks::{owned, owned_but_last};
 
 /// What is altered.
 #[derive(Clone, Copy, Debug, PartialEq, Eq)]
@@ -85,6 +86,34 @@ pub enum Alter {
     FoldRefusesBegun,
     /// A fold never answers that it is finished.
     FoldNeverEnds,
+    /// Recovery takes a chip with A2 marks, as until Q-8.
+    TakesA2,
+    /// Recovery takes a chip whose only mark is a torn A2, as until Q-8.
+    TakesTornA2,
+    /// Recovery asks no mark for its plan.
+    AsksNoOwner,
+    /// Recovery asks the last mark alone for its plan.
+    AsksLastOwner,
+    /// A save's mark has a sum that is 1 too high.
+    SavesOtherSum,
+    /// A fold writes an A2 mark, as until Q-8.
+    FoldWritesA2,
+    /// A fold writes a sum that is 1 too high.
+    FoldOtherSum,
+    /// A fold writes a length that is 1 too high.
+    FoldOtherLength,
+    /// A fold writes what the old mark names, zeros where that is A2.
+    FoldKeepsOwner,
+    /// A fold takes a chip with A2 marks for one without a save.
+    FoldLosesA2,
+    /// A fold refuses a chip with A2 marks with 15.
+    FoldRefusesA2,
+    /// A fold refuses a chip whose only mark is a torn A2 with 12, as recovery does.
+    FoldRefusesTornA2,
+    /// A fold asks no mark for its plan.
+    FoldAsksNoOwner,
+    /// A fold asks the last mark alone for its plan.
+    FoldAsksLastOwner,
 }
 
 impl Alter {
@@ -130,11 +159,18 @@ impl<E: Engine> Engine for Altered<E> {
         if self.alter == Alter::WholeBefore5A {
             add_final_page(plan, page, &mut seen);
         }
-        let answer = self.engine.recover(Lent {
+        let mut answer = self.engine.recover(Lent {
             chip: &mut seen,
             state,
             ..lent
         });
+        if let Some(engine) = self.takes_refused(plan, page, &mut seen, answer) {
+            answer = engine.recover(Lent {
+                chip: &mut seen,
+                state,
+                ..lent
+            });
+        }
         match answer {
             Ok(()) if self.takes_for_damaged(plan, page, chip, state) => {
                 state.copy_from_slice(&before);
@@ -198,6 +234,33 @@ impl Before {
         Before {
             chip: chip.to_vec(),
             state: State::from_bytes(state),
+        }
+    }
+}
+
+impl<E: Engine> Altered<E> {
+    /// Where a recovery is refused that the altered one takes: the engine that takes it, of the chip as
+    /// it then reads it.
+    fn takes_refused(
+        &self,
+        plan: &[u8],
+        page: usize,
+        chip: &mut Vec<u8>,
+        answer: Result<(), u32>,
+    ) -> Option<&dyn Engine> {
+        let is_a2 = |chip: &[u8]| read_as(plan, chip, page, Kind::A2).is_ok();
+        match (self.alter, answer.err()?) {
+            (Alter::TakesA2, OLD_MARKS) => Some(&UNTIL),
+            (Alter::TakesTornA2, CHIP_DAMAGED) if is_a2(chip) => Some(&UNTIL),
+            (Alter::AsksNoOwner, OTHER_PLAN) => {
+                *chip = owned(plan, chip, page);
+                Some(&self.engine)
+            }
+            (Alter::AsksLastOwner, OTHER_PLAN) => {
+                *chip = owned_but_last(plan, chip, page);
+                Some(&self.engine)
+            }
+            _ => None,
         }
     }
 }
@@ -281,6 +344,7 @@ impl<E> Altered<E> {
                 let filling = without_trailing_ff(last);
                 last[filling..].fill(0x00);
             }
+            (Alter::SavesOtherSum, Some(_)) if after.saving.is_none() => raise_sum(&after, chip),
             (Alter::ErasesForever, _) => altered.erase = state.erase,
             (Alter::OtherStop, _) => altered.stop = after.stop.map(|_| Stop::Divisor),
             _ => {}
@@ -300,6 +364,12 @@ impl<E> Altered<E> {
         }
         ran
     }
+}
+
+/// Makes the sum of the save that ends at the write position another; it stands right before 5A.
+fn raise_sum(state: &State, chip: &mut [u8]) {
+    let end = without_trailing_ff(&chip[..state.write as usize]);
+    chip[end - 3] = chip[end - 3].wrapping_add(1);
 }
 
 /// The command byte that is due, or 0 while pages are to be erased or stored.
@@ -337,14 +407,17 @@ fn erase_lowest(page: usize, chip: &mut [u8]) {
     }
 }
 
-/// Makes the torn bytes a whole save where at most a page, of zeros and the final 5A, does it.
+/// Makes the torn bytes a whole save where at most a page, of zeros, what names the plan and the final 5A, does it.
 fn add_final_page(plan: &[u8], page: usize, chip: &mut [u8]) {
     let saves = |chip: &[u8]| read(plan, chip, page).map(|held| held.saves.len());
     let stored = without_trailing_ff(chip);
+    let end = [&owner(plan).to_le_bytes()[..], &[MARK_END]].concat();
     let whole = (1..=page.min(chip.len() - stored)).find_map(|missing| {
         let mut ended = chip.to_vec();
-        ended[stored..stored + missing].fill(0x00);
-        ended[stored + missing - 1] = MARK_END;
+        let added = &mut ended[stored..stored + missing];
+        added.fill(0x00);
+        let of_end = missing.min(end.len());
+        added[missing - of_end..].copy_from_slice(&end[end.len() - of_end..]);
         (saves(&ended).ok()? > saves(chip).ok()?).then_some(ended)
     });
     if let Some(whole) = whole {

@@ -1,17 +1,20 @@
 //! Calls of any content, most of which are refused. A refused call among those of a list must alter nothing.
 
-use reference::journal::{BYTE_CHIP, MAX_CHIP, PAGE_CHIP};
+use reference::journal::{
+    owner, read, Chip, Kind, BYTE_CHIP, ERASED, MARK_A2, MARK_A3, MAX_CHIP, PAGE_CHIP,
+};
 use reference::layout::{NUMBERS_AT, STATE_BYTES};
 use reference::machine::SET_WORDS;
 
 use crate::engine::{Engine, Lent};
+use crate::marks::{remarked, with_a2};
 use crate::plans::plan;
 use crate::rng::Rng;
 use crate::sentence::{Sentence, Violation};
 use crate::watch::Watch;
 
 /// The refusals by number, as they are counted.
-const REFUSED: [&str; 13] = [
+const REFUSED: [&str; 17] = [
     "accepted, so in no list",
     "refused 1",
     "refused 2",
@@ -25,6 +28,10 @@ const REFUSED: [&str; 13] = [
     "refused 10",
     "refused 11",
     "refused 12",
+    "refused 13",
+    "refused 14",
+    "refused 15",
+    "refused 16",
 ];
 
 /// Everything that is lent to a call, with the outputs' places.
@@ -39,19 +46,35 @@ struct Content {
 }
 
 impl Content {
-    /// What the list would lend, for either kind of chip, with one or two things spoiled.
-    fn spoiled<E: Engine>(watch: &Watch<E>, rng: &mut Rng) -> Content {
-        let mut content = Content {
+    /// What the list would lend.
+    fn of_list<E: Engine>(watch: &Watch<E>, rng: &mut Rng) -> Content {
+        Content {
             plan: watch.plan().to_vec(),
             sets: watch.sets().to_vec(),
-            page: rng.pick(&[BYTE_CHIP, PAGE_CHIP]),
+            page: watch.page(),
             chip: watch.chip().to_vec(),
             state: watch.state().to_vec(),
             outputs: vec![-77; rng.below(4)],
+        }
+    }
+
+    /// The same for either kind of chip, with one or two things spoiled.
+    fn spoiled<E: Engine>(watch: &Watch<E>, rng: &mut Rng) -> Content {
+        let page = rng.pick(&[BYTE_CHIP, PAGE_CHIP]);
+        let mut content = Content {
+            page,
+            ..Content::of_list(watch, rng)
         };
         for _ in 0..1 + rng.below(2) {
             spoil_content(&mut content, rng);
         }
+        content
+    }
+
+    /// The same with other marks on the chip alone.
+    fn with_other_marks<E: Engine>(watch: &Watch<E>, rng: &mut Rng) -> Content {
+        let mut content = Content::of_list(watch, rng);
+        spoil_marks(&content.plan, &mut content.chip, content.page, rng);
         content
     }
 }
@@ -59,7 +82,11 @@ impl Content {
 /// Makes a call of random content, where the list stands. It gets copies of the list's chip and state, so that it
 /// alters nothing where it is accepted: then it is no call of the list.
 pub fn try_call<E: Engine>(watch: &mut Watch<E>, rng: &mut Rng) -> Result<(), Violation> {
-    let mut content = Content::spoiled(watch, rng);
+    let of_marks = rng.below(4) == 0;
+    let mut content = match of_marks {
+        true => Content::with_other_marks(watch, rng),
+        false => Content::spoiled(watch, rng),
+    };
     let before = content.clone();
     let lent = Lent {
         plan: &content.plan,
@@ -70,6 +97,8 @@ pub fn try_call<E: Engine>(watch: &mut Watch<E>, rng: &mut Rng) -> Result<(), Vi
     };
     let engine = watch.engine();
     let answer = match rng.below(2) {
+        // Of the marks a run asks nothing.
+        _ if of_marks => engine.recover(lent),
         0 => engine.recover(lent),
         _ => engine
             .run(lent, &[1, 2, 3], &mut content.outputs, 20)
@@ -135,6 +164,38 @@ pub(crate) fn spoil_chip(chip: &mut Vec<u8>, rng: &mut Rng) {
             chip.extend([rng.byte(), rng.byte()]);
         }
     }
+}
+
+/// Gives the chip's whole saves A2 marks, lets one of them name another plan, or puts the first byte
+/// of the other kind's mark behind them, where it has any.
+pub(crate) fn spoil_marks(plan: &[u8], chip: &mut Vec<u8>, page: usize, rng: &mut Rng) {
+    let Ok(held) = read(plan, chip, page) else {
+        return;
+    };
+    let (by, at) = (1_u32 << rng.below(32), rng.below(held.saves.len().max(1)));
+    let other = match rng.below(5) {
+        0..2 => with_a2(plan, chip, page),
+        2..4 => remarked(plan, chip, page, |number, mark| match number == at {
+            true => Some(owner(plan) ^ by),
+            false => mark.owner,
+        }),
+        _ => with_other_tag(chip, &held),
+    };
+    if let Some(other) = other {
+        *chip = other;
+    }
+}
+
+/// The chip with whole saves and behind them the first byte of the other kind's mark alone.
+fn with_other_tag(chip: &[u8], held: &Chip) -> Option<Vec<u8>> {
+    let tag = match held.saves.last()?.mark.kind() {
+        Kind::A2 => MARK_A3,
+        Kind::A3 => MARK_A2,
+    };
+    let mut chip = chip.to_vec();
+    chip[held.end..].fill(ERASED);
+    *chip.get_mut(held.end)? = tag;
+    Some(chip)
 }
 
 /// A state of the right length that may hold anything: often much like the one given.

@@ -1,6 +1,7 @@
 //! What an engine is to the harness, and the Rust version as one.
 
-use reference::folding::Folded;
+use reference::folding::{fold_until, Folded};
+use reference::journal::Kind;
 use reference::{fold, Analysis, Machine};
 
 /// What the host lends to every call, and the page length of the chip, which says for which kind the call is. A state is
@@ -73,7 +74,43 @@ pub trait Engine {
 /// The Rust version.
 pub struct Reference;
 
+/// The Rust version with marks of this kind (document 02, Q-8): with A2 it is the one until then.
+pub struct OfKind(pub Kind);
+
+/// The Rust version until Q-8.
+pub(crate) static UNTIL: OfKind = OfKind(Kind::A2);
+
 impl Engine for Reference {
+    fn analyse(&self, plan: &[u8], sets: &mut [u64]) {
+        OfKind(Kind::A3).analyse(plan, sets);
+    }
+
+    fn recover(&self, lent: Lent) -> Result<(), u32> {
+        OfKind(Kind::A3).recover(lent)
+    }
+
+    fn run(
+        &self,
+        lent: Lent,
+        readings: &[i32],
+        outputs: &mut [i32],
+        budget: u64,
+    ) -> Result<Ran, u32> {
+        OfKind(Kind::A3).run(lent, readings, outputs, budget)
+    }
+
+    fn fold(&self, lent: LentFold) -> Result<Folded, u32> {
+        OfKind(Kind::A3).fold(lent)
+    }
+}
+
+impl OfKind {
+    fn machine<'a>(&self, lent: &Lent<'a>) -> Result<Machine<'a>, u32> {
+        Machine::of_kind(lent.plan, lent.sets, lent.page, self.0)
+    }
+}
+
+impl Engine for OfKind {
     fn analyse(&self, plan: &[u8], sets: &mut [u64]) {
         fill(
             sets,
@@ -82,7 +119,7 @@ impl Engine for Reference {
     }
 
     fn recover(&self, lent: Lent) -> Result<(), u32> {
-        Machine::new(lent.plan, lent.sets, lent.page)?.recover_bytes(lent.chip, lent.state)
+        self.machine(&lent)?.recover_bytes(lent.chip, lent.state)
     }
 
     fn run(
@@ -93,7 +130,7 @@ impl Engine for Reference {
         budget: u64,
     ) -> Result<Ran, u32> {
         let room = outputs.len();
-        let machine = Machine::new(lent.plan, lent.sets, lent.page)?;
+        let machine = self.machine(&lent)?;
         let ran = machine.run_bytes(lent.chip, lent.state, readings, room, budget)?;
         outputs[..ran.given.len()].copy_from_slice(&ran.given);
         Ok(Ran {
@@ -106,6 +143,10 @@ impl Engine for Reference {
 
     fn fold(&self, lent: LentFold) -> Result<Folded, u32> {
         let (words, old) = (lent.sets.len(), &*lent.old);
+        let fold = match self.0 {
+            Kind::A2 => fold_until,
+            Kind::A3 => fold,
+        };
         fold(lent.plan, words, old, lent.new, lent.stored, lent.budget)
     }
 }

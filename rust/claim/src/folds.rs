@@ -2,19 +2,19 @@
 //! one, and the list goes on with that. The fold is made of calls with any budget; some are cut and
 //! their answer is lost, and refused calls stand among them.
 
-use reference::folding::folded;
+use reference::folding::save_bytes;
 use reference::journal::{read, BYTE_CHIP, ERASED, MAX_CHIP};
 
 use crate::altered::without_trailing_ff;
-use crate::calls::{refused_plan, spoil_chip, spoiled};
+use crate::calls::{refused_plan, spoil_chip, spoil_marks, spoiled};
 use crate::engine::{Engine, LentFold};
 use crate::met::Met;
 use crate::rng::Rng;
 use crate::sentence::{hold, Sentence, Violation};
 use crate::watch::Watch;
 
-/// The refusals of folds by number, as they are counted; there is no 10.
-const REFUSED: [&str; 15] = [
+/// The refusals of folds by number, as they are counted; there is no 10 and no 15.
+const REFUSED: [&str; 17] = [
     "accepted, so in no list",
     "folds refused 1",
     "folds refused 2",
@@ -30,6 +30,8 @@ const REFUSED: [&str; 15] = [
     "folds refused 12",
     "folds refused 13",
     "folds refused 14",
+    "folds refused 15",
+    "folds refused 16",
 ];
 
 /// The number of bytes stored on a new chip, as a host finds it that has lost it: up to the last
@@ -41,6 +43,7 @@ pub fn found_number(new: &[u8]) -> usize {
 /// Folds the list's chip onto a blank one that is long enough, with which the list goes on.
 pub fn fold<E: Engine>(watch: &mut Watch<E>, rng: &mut Rng) -> Result<(), Violation> {
     let save = count_old(watch);
+    let is_old = watch.is_old();
     let length = new_length(rng, save, watch.chip().len());
     let mut new = vec![ERASED; length];
     let (mut least, mut most) = (0, 0);
@@ -50,10 +53,18 @@ pub fn fold<E: Engine>(watch: &mut Watch<E>, rng: &mut Rng) -> Result<(), Violat
         if rng.below(4) == 0 {
             try_fold(watch, rng, &new, stored)?;
         }
+        if is_old && rng.below(3) == 0 {
+            // Until the new chip is finished, the old one is refused as before.
+            watch.recover_old()?;
+            watch.met.count("old chips refused within a fold");
+        }
         let answer = watch.fold(&mut new, stored, budget(rng, save))?;
         (least, most) = (found_number(&new), answer.stored as usize);
         if rng.below(3) == 0 {
             count_cut(&mut watch.met, least, most, save);
+            watch
+                .met
+                .add("cuts in a fold from A2 to A3", u64::from(is_old));
             most = least;
         } else if answer.finished {
             return finish(watch, rng, new, save);
@@ -73,11 +84,12 @@ fn count_old<E: Engine>(watch: &mut Watch<E>) -> usize {
         ("folds of a chip with several saves", held.saves.len() > 1),
         ("folds of a chip with torn bytes", held.torn > 0),
         ("folds in a list that had one", watch.folds() > 0),
+        ("folds from A2 to A3", watch.is_old()),
     ];
     for (name, is_met) in named {
         watch.met.add(name, u64::from(is_met));
     }
-    folded(&held).map_or(0, |save| save.bytes().len())
+    save_bytes(watch.plan(), &held, watch.kind()).len()
 }
 
 /// A length that the save fits: just, or with room for more of them, below the old chip's or above.
@@ -148,10 +160,11 @@ struct Content {
 impl Content {
     /// Spoils one of the plan, the words, the chips and the number.
     fn spoil(&mut self, rng: &mut Rng) {
-        match rng.below(10) {
+        match rng.below(11) {
             0 => self.plan = refused_plan(rng),
             1 => self.sets.truncate(rng.below(self.sets.len())),
             2 => spoil_chip(&mut self.old, rng),
+            10 => spoil_marks(&self.plan, &mut self.old, BYTE_CHIP, rng),
             3 => self.new.resize(MAX_CHIP + 1, ERASED),
             4..6 => {
                 self.new.resize(self.new.len().max(1), ERASED);

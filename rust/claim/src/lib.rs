@@ -4,8 +4,9 @@
 //! in (`Engine`). `Watch` makes the calls, keeps the tally, and holds every answer, chip and state
 //! to the section's sentences and to the uncut run. `list` draws a list from a seed, `plans` its
 //! plan, `calls` the refused calls. A list may go over two days (`Days`), the sets until Q-3 and
-//! those since, and in lists for a byte chip this may be folded (`folds`, of Q-6). `altered` has
-//! engines with one error each, on which the watch has to fail.
+//! those since, and in lists for a byte chip this may be folded (`folds`, of Q-6), also from the
+//! marks until Q-8 to those since (`Marks`). `altered` has engines with one error each, on which the
+//! watch has to fail.
 
 pub mod altered;
 pub mod calls;
@@ -13,6 +14,7 @@ pub mod days;
 pub mod engine;
 pub mod folds;
 pub mod list;
+pub mod marks;
 pub mod met;
 mod misfolds;
 pub mod plans;
@@ -23,8 +25,9 @@ mod step;
 pub mod watch;
 
 pub use days::Days;
-pub use engine::{Engine, Lent, LentFold, Ran, Reference};
+pub use engine::{Engine, Lent, LentFold, OfKind, Ran, Reference};
 pub use list::{watch_list, watch_lists, Sort};
+pub use marks::Marks;
 pub use met::Met;
 pub use sentence::{Sentence, Violation};
 pub use watch::{Start, Watch};

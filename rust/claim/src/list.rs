@@ -1,5 +1,6 @@
 //! Random lists of calls for one kind of chip, each drawn from a seed: under one day's sets, or
-//! over the two days of document 02's request Q-3; and with folds of the chip, of its request Q-6.
+//! over the two days of document 02's request Q-3; with folds of the chip, of its request Q-6; and
+//! with A2 marks, or from these to A3 ones, of its request Q-8.
 
 use std::fmt;
 use std::ops::Range;
@@ -13,34 +14,55 @@ use crate::calls::{spoiled, try_call};
 use crate::days::Days;
 use crate::engine::Engine;
 use crate::folds::fold;
+use crate::marks::Marks;
 use crate::met::Met;
 use crate::plans::{plan, set_points};
 use crate::rng::Rng;
 use crate::sentence::{Sentence, Violation};
 use crate::watch::{Start, Watch};
 
-/// A sort of lists: which day's sets their calls get, the page length of their chips, and whether
-/// these are folded.
+/// A sort of lists: which day's sets their calls get, the page length of their chips, whether these
+/// are folded, and which marks they have.
 #[derive(Clone, Copy, Debug, PartialEq, Eq)]
 pub struct Sort {
     pub days: Days,
     pub page: usize,
     pub folds: bool,
+    pub marks: Marks,
 }
 
 impl Sort {
     /// Lists without folds.
     pub fn of(days: Days, page: usize) -> Sort {
-        let folds = false;
-        Sort { days, page, folds }
+        Sort {
+            days,
+            page,
+            folds: false,
+            marks: Marks::A3,
+        }
     }
 
     /// Lists with folds, which byte chips alone have.
     pub fn folding(days: Days) -> Sort {
         Sort {
-            days,
-            page: BYTE_CHIP,
             folds: true,
+            ..Sort::of(days, BYTE_CHIP)
+        }
+    }
+
+    /// The same with A2 marks to the end, for an engine as until Q-8.
+    pub fn with_a2(self) -> Sort {
+        Sort {
+            marks: Marks::A2,
+            ..self
+        }
+    }
+
+    /// Lists begun as until Q-8, whose chip the engine folds, and goes on.
+    pub fn changing_marks(days: Days) -> Sort {
+        Sort {
+            marks: Marks::Change,
+            ..Sort::folding(days)
         }
     }
 }
@@ -48,7 +70,16 @@ impl Sort {
 impl fmt::Display for Sort {
     fn fmt(&self, text: &mut fmt::Formatter) -> fmt::Result {
         let folds = if self.folds { ", with folds" } else { "" };
-        write!(text, "{:?}, pages of {}{folds}", self.days, self.page)
+        let marks = match self.marks {
+            Marks::A3 => "",
+            Marks::A2 => ", A2 marks",
+            Marks::Change => ", A2 marks and then A3",
+        };
+        write!(
+            text,
+            "{:?}, pages of {}{folds}{marks}",
+            self.days, self.page
+        )
     }
 }
 
@@ -107,13 +138,18 @@ pub fn watch_list(
     let mut watch = Watch::new(engine, start(&mut rng, sort));
     watch.met = std::mem::take(met);
     watch.met.count("lists");
-    let outcome = match sort.days {
-        Days::Today => call_all(&mut watch, &mut rng, sort),
-        Days::Change => call_over_change(&mut watch, &mut rng, sort),
-        Days::Either => {
-            watch.lend_either(Rng::new(1 | rng.word()));
-            call_all(&mut watch, &mut rng, sort)
-        }
+    match sort.marks {
+        Marks::A3 => {}
+        Marks::A2 => watch.keep_a2(),
+        Marks::Change => watch.begin_a2(),
+    }
+    if sort.days == Days::Either {
+        watch.lend_either(Rng::new(1 | rng.word()));
+    }
+    let outcome = match (sort.marks, sort.days) {
+        (Marks::Change, _) => call_over_marks(&mut watch, &mut rng, sort),
+        (_, Days::Change) => call_over_change(&mut watch, &mut rng, sort),
+        (_, Days::Today | Days::Either) => call_all(&mut watch, &mut rng, sort),
     };
     *met = std::mem::take(&mut watch.met);
     outcome
@@ -130,10 +166,10 @@ fn start(rng: &mut Rng, sort: Sort) -> Start {
         readings: readings(rng),
         page,
         chip: match (rng.below(4), sort.days) {
-            (0, _) => rng.below(60).next_multiple_of(page),
-            (_, Days::Today) if !sort.folds => rng.below(401).next_multiple_of(page),
+            (0, _) => rng.below(72).next_multiple_of(page),
+            (_, Days::Today) if !sort.folds => rng.below(481).next_multiple_of(page),
             // Longer ones have room for saves of either day, and before and behind a fold.
-            _ => rng.below(801).next_multiple_of(page),
+            _ => rng.below(961).next_multiple_of(page),
         },
         state: spoiled(&[0; STATE_BYTES], rng),
         sets: (0..SET_WORDS + rng.below(3)).map(|_| rng.word()).collect(),
@@ -199,6 +235,36 @@ fn call_over_change<E: Engine>(
     Ok(())
 }
 
+/// A list that is begun as until Q-8, whose marks change at some call. Where the day of Q-3 changes
+/// too, that comes first, or at once with it.
+fn call_over_marks<E: Engine>(
+    watch: &mut Watch<E>,
+    rng: &mut Rng,
+    sort: Sort,
+) -> Result<(), Violation> {
+    if sort.days == Days::Change {
+        watch.begin_until();
+    }
+    call_some(watch, rng, sort, 1, 8)?;
+    lead_into_save(watch, rng)?;
+    if sort.days == Days::Change {
+        watch.change_day(spoiled(watch.state(), rng));
+        if rng.below(2) == 0 {
+            call_some(watch, rng, sort, 1, 4)?;
+            lead_into_save(watch, rng)?;
+        }
+    }
+    watch.change_marks(spoiled(watch.state(), rng))?;
+    if watch.is_old() || rng.below(2) == 0 {
+        fold(watch, rng)?;
+    }
+    call_some(watch, rng, sort, 3, 8)?;
+    if finish(watch, rng)? {
+        watch.met.count("stops reached after the change of marks");
+    }
+    Ok(())
+}
+
 /// Mostly runs on for some saves, and then often to where one is torn.
 fn lead_into_save<E: Engine>(watch: &mut Watch<E>, rng: &mut Rng) -> Result<(), Violation> {
     let lead = rng.below(4);
@@ -235,7 +301,7 @@ fn readings(rng: &mut Rng) -> Vec<i32> {
 
 /// A budget: often few steps, so that cuts fall everywhere.
 fn budget(rng: &mut Rng) -> u64 {
-    let most = rng.pick(&[2, 12, 12, 40, 40, 120]);
+    let most = rng.pick(&[2, 12, 12, 48, 48, 144]);
     rng.below(most) as u64
 }
 

@@ -7,6 +7,7 @@ use reference::journal::BYTE_CHIP;
 
 use crate::days::Days;
 use crate::list::Sort;
+use crate::marks::Marks;
 
 /// How much of what a thousand lists have to meet at least, or their test has shown too little.
 const FLOORS: [(&str, u64); 25] = [
@@ -105,6 +106,26 @@ const FLOORS_OF_FOLDS_AND_CHANGE: [(&str, u64); 4] = [
     ("changes of day before a fold", 300),
 ];
 
+/// The same for what only lists meet whose engine writes A3 marks from the beginning.
+const FLOORS_OF_A3: [(&str, u64); 2] = [("refused 15", 5), ("refused 16", 5)];
+
+/// The same for what only lists with folds meet of these.
+const FLOORS_OF_FOLDS_AND_A3: [(&str, u64); 1] = [("folds refused 16", 5)];
+
+/// The same for what only lists meet that go over from A2 to A3 marks.
+const FLOORS_OF_MARKS: [(&str, u64); 10] = [
+    ("changes of marks", 1000),
+    ("changes on A2 marks", 300),
+    ("changes on several A2 marks", 80),
+    ("changes on A2 marks and torn bytes", 60),
+    ("changes on a torn A2 alone", 20),
+    ("changes on a chip without a mark", 100),
+    ("folds from A2 to A3", 400),
+    ("cuts in a fold from A2 to A3", 150),
+    ("old chips refused within a fold", 200),
+    ("stops reached after the change of marks", 200),
+];
+
 #[derive(Clone, Debug, Default)]
 pub struct Met(BTreeMap<&'static str, u64>);
 
@@ -137,11 +158,20 @@ impl Met {
         if sort.folds {
             self.assert_floors_per("lists", &FLOORS_OF_FOLDS);
         }
-        let of_days: &[_] = match (sort.days, sort.folds) {
-            (Days::Today, _) => &[],
-            (Days::Change, false) => &FLOORS_OF_CHANGE,
-            (Days::Change, true) => &FLOORS_OF_FOLDS_AND_CHANGE,
-            (Days::Either, _) => &FLOORS_OF_EITHER,
+        let of_marks: &[_] = match (sort.marks, sort.folds) {
+            (Marks::A3, false) => &FLOORS_OF_A3,
+            (Marks::A3, true) => &[FLOORS_OF_A3[0], FLOORS_OF_A3[1], FLOORS_OF_FOLDS_AND_A3[0]],
+            (Marks::A2, _) => &[],
+            (Marks::Change, _) => &FLOORS_OF_MARKS,
+        };
+        self.assert_floors_per("lists", of_marks);
+        let of_days: &[_] = match (sort.days, sort.folds, sort.marks) {
+            (Days::Today, _, _) => &[],
+            // Few folds come before the marks change, and no change of day after that.
+            (Days::Change, _, Marks::Change) => &FLOORS_OF_FOLDS_AND_CHANGE[..2],
+            (Days::Change, false, _) => &FLOORS_OF_CHANGE,
+            (Days::Change, true, _) => &FLOORS_OF_FOLDS_AND_CHANGE,
+            (Days::Either, _, _) => &FLOORS_OF_EITHER,
         };
         self.assert_floors_per("lists", of_days);
     }

@@ -5,7 +5,7 @@ use std::fmt;
 use reference::journal::ERASED;
 
 /// What a list may violate: the sentences of document 01's section in their order, then what the
-/// harness takes for granted in them, then what document 02 says of folding (Q-6).
+/// harness takes for granted in them, then what document 02 says of folding (Q-6) and of marks (Q-8).
 #[derive(Clone, Copy, Debug, PartialEq, Eq, PartialOrd, Ord)]
 pub enum Sentence {
     /// "After each accepted call that no cut ended, place .. are the uncut run's".
@@ -22,7 +22,8 @@ pub enum Sentence {
     Outputs,
     /// "Repetitions aside, the outputs so far are the uncut run's up to the highest tally, after a stop all of them."
     SoFar,
-    /// "recovery never gives 12"; nor another number, of which the list gives no ground.
+    /// "recovery never gives 12"; nor another number, of which the list gives no ground: "A restart is
+    /// promised, never 15 or 16, for a chip without A2 marks and the very plan that wrote it".
     RecoveryRefused,
     /// "a run never gives 10"; nor another number.
     RunRefused,
@@ -46,8 +47,11 @@ pub enum Sentence {
     /// fold with budget stores a byte or is finished, it ends.
     FoldBytes,
     /// "recovering old or finished new must give the same state except for write position and bytes
-    /// to erase".
+    /// to erase", and of an old chip with A2 marks "the state that the old one gave until now".
     FoldedState,
+    /// "Recovery of an old chip with A2 marks, accepted until now, is refused": with 15, or with 12
+    /// where its only mark is a torn A2.
+    OldMarks,
 }
 
 /// A sentence that a list violates, and where.

@@ -6,12 +6,13 @@
 //! itself, which has to leave and answer the same.
 
 use reference::folding::Folded;
-use reference::journal::{BYTE_CHIP, ERASED};
+use reference::journal::{read_as, Kind, BYTE_CHIP, ERASED};
 use reference::layout::STATE_BYTES;
 use reference::machine::State;
 
 use crate::days::{dead_sets, DeadSets, TwoDays};
-use crate::engine::{fill, Engine, Lent, LentFold, Ran};
+use crate::engine::{fill, Engine, Lent, LentFold, Ran, UNTIL};
+use crate::marks::{count_change, refusal_of_old};
 use crate::met::Met;
 use crate::record::Record;
 use crate::rng::Rng;
@@ -57,6 +58,10 @@ struct Either {
 /// A list of calls to an engine, with one plan, one list of readings and one kind of chip.
 pub struct Watch<'e, E> {
     engine: &'e E,
+    /// The kind of the marks that are written.
+    kind: Kind,
+    /// Whether the reference as until Q-8 answers the list's calls, and not the engine.
+    stands_in: bool,
     plan: Vec<u8>,
     sets: Vec<u64>,
     page: usize,
@@ -86,6 +91,8 @@ impl<'e, E: Engine> Watch<'e, E> {
         let analysis = reference::analyse(&start.plan).expect("the plan is accepted");
         Watch {
             engine,
+            kind: Kind::A3,
+            stands_in: false,
             sets,
             page: start.page,
             dead: dead_sets(&start.plan, &analysis),
@@ -110,6 +117,47 @@ impl<'e, E: Engine> Watch<'e, E> {
             old: None,
             met: Met::default(),
         }
+    }
+
+    /// Says, before the first call, that the engine writes A2 marks to the end.
+    pub fn keep_a2(&mut self) {
+        self.kind = Kind::A2;
+    }
+
+    /// Begins the list as until Q-8, before its first call: the reference of that day answers.
+    pub fn begin_a2(&mut self) {
+        self.keep_a2();
+        self.stands_in = true;
+    }
+
+    /// The marks change: the state is spoiled as by a cut, and from now on the engine is called. It
+    /// must refuse to recover the chip, unless no mark stands on it, until it has folded it.
+    pub fn change_marks(&mut self, spoiled: Vec<u8>) -> Result<(), Violation> {
+        assert!(self.stands_in, "a list begun until Q-8");
+        self.cut(spoiled);
+        (self.kind, self.stands_in) = (Kind::A3, false);
+        count_change(&self.plan, &self.point.chip, &mut self.met);
+        self.recover_old()
+    }
+
+    /// Whether the chip is one of A2 marks, which the engine has to fold before it recovers it.
+    pub fn is_old(&self) -> bool {
+        let is_a3 = |chip: &[u8]| read_as(&self.plan, chip, self.page, Kind::A3).is_ok();
+        self.kind == Kind::A3 && !is_a3(&self.point.chip)
+    }
+
+    /// A recovery of the chip as it is when the marks have changed, on copies: what is accepted here is made again.
+    pub fn recover_old(&mut self) -> Result<(), Violation> {
+        let mut left = self.point.clone();
+        let lent = lend(&self.plan, &self.sets, self.page, &mut left);
+        let answer = self.engine.recover(lent);
+        let expected = refusal_of_old(&self.plan, &self.point.chip);
+        let text = || format!("{answer:?}, not {expected:?}: chip {}", shown(&left.chip));
+        hold(answer.err() == expected, Sentence::OldMarks, text)?;
+        let is_left =
+            left.chip == self.point.chip && (answer.is_ok() || left.state == self.point.state);
+        let text = || format!("refused {answer:?} altered what was lent");
+        hold(is_left, Sentence::RefusedCall, text)
     }
 
     /// Begins the list under the sets until Q-3, before its first call. Cells are held that are not dead by them: those
@@ -160,8 +208,17 @@ impl<'e, E: Engine> Watch<'e, E> {
         }
     }
 
-    pub fn engine(&self) -> &'e E {
-        self.engine
+    /// The engine that answers the calls now.
+    pub fn engine(&self) -> &'e dyn Engine {
+        match self.stands_in {
+            true => &UNTIL,
+            false => self.engine,
+        }
+    }
+
+    /// The kind of the marks that are written now.
+    pub fn kind(&self) -> Kind {
+        self.kind
     }
 
     pub fn plan(&self) -> &[u8] {
@@ -246,7 +303,7 @@ impl<'e, E: Engine> Watch<'e, E> {
         self.draw_sets();
         let mut left = self.point.clone();
         let lent = lend(&self.plan, &self.sets, self.page, &mut left);
-        let answer = self.engine.recover(lent);
+        let answer = self.engine().recover(lent);
         let before = &self.point.chip;
         let refused = || format!("{answer:?}, chip {}", shown(before));
         hold(answer.is_ok(), Sentence::RecoveryRefused, refused)?;
@@ -263,7 +320,7 @@ impl<'e, E: Engine> Watch<'e, E> {
         self.met.count("calls of folding");
         let before = new.to_vec();
         let mut old = self.point.chip.clone();
-        let answer = self.engine.fold(LentFold {
+        let answer = self.engine().fold(LentFold {
             plan: &self.plan,
             sets: &self.sets,
             old: &mut old,
@@ -309,17 +366,23 @@ impl<'e, E: Engine> Watch<'e, E> {
     }
 
     /// Where the chip was folded since the last recovery: the state recovered from the old one is
-    /// the same "except for write position and bytes to erase".
+    /// the same "except for write position and bytes to erase". Of one with A2 marks the reference as
+    /// until Q-8 recovers it.
     fn compare_with_old(&mut self) -> Result<(), Violation> {
         let Some(chip) = self.old.take() else {
             return Ok(());
+        };
+        let is_a3 = read_as(&self.plan, &chip, self.page, Kind::A3).is_ok();
+        let engine: &dyn Engine = match self.kind == Kind::A2 || is_a3 {
+            true => self.engine(),
+            false => &UNTIL,
         };
         let mut old = Point {
             chip,
             ..self.point.clone()
         };
         let lent = lend(&self.plan, &self.sets, self.page, &mut old);
-        let answer = self.engine.recover(lent);
+        let answer = engine.recover(lent);
         let refused = || format!("the old chip: {answer:?}");
         hold(answer.is_ok(), Sentence::RecoveryRefused, refused)?;
         let (from_old, mut new) = (state_of(&old)?, state_of(&self.point)?);
@@ -381,7 +444,7 @@ impl<'e, E: Engine> Watch<'e, E> {
         };
         let mut outputs = vec![0; room];
         let lent = lend(&self.plan, &self.sets, self.page, &mut left);
-        let ran = accepted(self.engine.run(lent, &readings, &mut outputs, budget))?;
+        let ran = accepted(self.engine().run(lent, &readings, &mut outputs, budget))?;
         self.met.count("runs");
         let (from, to) = (before.tally, left.tally);
         check_traffic(&mut self.record, from, to, ran, &outputs)?;
@@ -406,9 +469,10 @@ impl<'e, E: Engine> Watch<'e, E> {
         let mut before = state_of(&self.point)?;
         loop {
             let one = (budget - walked.steps).min(1);
+            let engine = self.engine();
             let lent = lend(&self.plan, &self.sets, self.page, &mut self.point);
             let room = &mut outputs[walked.written..];
-            let ran = accepted(self.engine.run(lent, &readings[walked.taken..], room, one))?;
+            let ran = accepted(engine.run(lent, &readings[walked.taken..], room, one))?;
             let too_many = || format!("{} steps with budget {one}", ran.steps);
             hold(ran.steps <= one, Sentence::StepsOfRun, too_many)?;
             let after = state_of(&self.point)?;
@@ -683,7 +747,7 @@ mod tests {
         let plan = [1, 0x0D, 0x0E, 0x07, 1, 0x0C, 0, 1, 1, 1, 8, 0, 9, 1, 0];
         for (is_until, sentence) in [(false, None), (true, Some(Sentence::Cells))] {
             let mut watch = before_all(&plan);
-            watch.point.chip = vec![ERASED; 28];
+            watch.point.chip = vec![ERASED; 36];
             let todays = watch.sets.clone();
             if is_until {
                 watch.begin_until();
@@ -691,7 +755,7 @@ mod tests {
             }
             watch.recover().unwrap();
             // Two saves, which by today's sets have a MARK alone, and the four commands between them.
-            watch.run(1, 1, 16 + 4 + 16).unwrap();
+            watch.run(1, 1, 20 + 4 + 20).unwrap();
             watch.cut(vec![0x00; STATE_BYTES]);
             assert_eq!(violated(watch.recover()), sentence);
         }

@@ -1,19 +1,28 @@
 //! Document 01's demand 3 on the Rust version, over random lists of calls for either kind of chip,
-//! over lists that go over the two days of document 02's request Q-3, and over lists with folds, of
-//! its request Q-6; and that the same lists find each of the altered engines.
+//! over lists that go over the two days of document 02's request Q-3, over lists with folds, of its
+//! request Q-6, and over lists begun with the marks until its request Q-8; and that the same lists
+//! find each of the altered engines.
 
 use std::env;
 use std::ops::Range;
 
 use claim::altered::{Alter, Altered};
-use claim::{watch_list, watch_lists, Days, Engine, Met, Reference, Sentence, Sort, Violation};
-use reference::journal::{BYTE_CHIP, PAGE_CHIP};
+use claim::{
+    watch_list, watch_lists, Days, Engine, Met, OfKind, Reference, Sentence, Sort, Violation,
+};
+use reference::journal::{Kind, BYTE_CHIP, PAGE_CHIP};
 
 /// The lists for the Rust version and each kind of chip, unless `CLAIM_LISTS` says another number.
 const LISTS: u64 = 4_000;
 
-/// One list over two days, or with folds, for so many of one day and without.
+/// The Rust version until Q-8.
+const UNTIL: OfKind = OfKind(Kind::A2);
+
+/// One list over two days, with folds, or with other marks, for so many of one day and without.
 const OF_ONE_DAY: u64 = 2;
+
+/// One list as document 01 has it, with A2 marks, for so many with A3 marks.
+const OF_01: u64 = 8;
 
 const KINDS: [usize; 2] = [BYTE_CHIP, PAGE_CHIP];
 
@@ -21,6 +30,9 @@ const ALL_DAYS: [Days; 3] = [Days::Today, Days::Change, Days::Either];
 
 /// The lists within which an altered engine must be caught.
 const FEW: Range<u64> = 0..1_000;
+
+/// The lists of other marks that must not catch one.
+const FEWER: Range<u64> = 0..300;
 
 /// The sentences of document 01's section. What the harness checks beside them is no catch.
 const OF_THE_CLAIM: [Sentence; 11] = [
@@ -102,6 +114,28 @@ fn lists_with_folds_keep_the_claim() {
     }
 }
 
+/// Begun by the Rust version until Q-8, under the sets of either day.
+#[test]
+fn lists_over_the_change_of_marks_keep_the_claim() {
+    for days in ALL_DAYS {
+        let sort = Sort::changing_marks(days);
+        keeps_the_claim(&Reference, sort, 0..lists() / OF_ONE_DAY);
+    }
+}
+
+/// Document 01's own lists, whose saves have A2 marks.
+#[test]
+fn the_rust_version_until_q_8_keeps_the_claim() {
+    for days in ALL_DAYS {
+        for page in KINDS {
+            let sort = Sort::of(days, page).with_a2();
+            keeps_the_claim(&UNTIL, sort, 0..lists() / OF_01);
+        }
+        let sort = Sort::folding(days).with_a2();
+        keeps_the_claim(&UNTIL, sort, 0..lists() / OF_01);
+    }
+}
+
 /// What the two kinds share holds for any page length.
 #[test]
 fn pages_of_any_length_keep_the_claim() {
@@ -120,6 +154,7 @@ fn the_wrapper_alone_keeps_the_claim() {
         let engine = altered(Alter::Nothing);
         kinds_keep_the_claim(&engine, days, FEW);
         keeps_the_claim(&engine, Sort::folding(days), FEW);
+        keeps_the_claim(&engine, Sort::changing_marks(days), FEW);
     }
 }
 
@@ -226,6 +261,79 @@ fn each_sentence_of_folds_is_seen_to_fail() {
     ] {
         caught(alter, Sort::folding(Days::Today), &[sentence]);
     }
+}
+
+/// A save that names another plan, or a fold to such a one or to an A2 mark, cannot be recovered.
+#[test]
+fn wrong_marks_are_caught_by_the_claim() {
+    for page in KINDS {
+        let sort = Sort::of(Days::Today, page);
+        caught(Alter::SavesOtherSum, sort, &[Sentence::RecoveryRefused]);
+    }
+    for alter in [
+        Alter::FoldWritesA2,
+        Alter::FoldOtherSum,
+        Alter::FoldOtherLength,
+    ] {
+        for days in ALL_DAYS {
+            caught(alter, Sort::folding(days), &[Sentence::RecoveryRefused]);
+            let sort = Sort::changing_marks(days);
+            caught(alter, sort, &[Sentence::RecoveryRefused]);
+        }
+    }
+}
+
+/// They show where a chip until Q-8 is recovered or folded, and nowhere else.
+#[test]
+fn errors_that_show_at_the_change_of_marks_are_caught_there() {
+    for (alter, by) in [
+        (Alter::TakesA2, &[Sentence::OldMarks][..]),
+        (Alter::TakesTornA2, &[Sentence::OldMarks]),
+        (Alter::FoldKeepsOwner, &[Sentence::RecoveryRefused]),
+        (Alter::FoldLosesA2, &OF_THE_CLAIM),
+        (Alter::FoldRefusesA2, &[Sentence::FoldRefused]),
+        (Alter::FoldRefusesTornA2, &[Sentence::FoldRefused]),
+    ] {
+        is_not_caught(&altered(alter), Sort::folding(Days::Today));
+        for days in ALL_DAYS {
+            caught(alter, Sort::changing_marks(days), by);
+        }
+    }
+}
+
+/// An engine as until Q-8 loses no output either; that it takes an old chip is seen at the change.
+#[test]
+fn the_engine_until_q_8_is_caught_at_the_change_of_marks() {
+    for page in KINDS {
+        is_not_caught(&UNTIL, Sort::of(Days::Today, page));
+    }
+    for days in ALL_DAYS {
+        let sort = Sort::changing_marks(days);
+        let found = watch_lists(&UNTIL, sort, FEW, &mut Met::default());
+        let sentence = found.err().map(|(_, violation)| violation.sentence);
+        assert_eq!(sentence, Some(Sentence::OldMarks), "{sort}");
+    }
+}
+
+/// Every chip of a list is its plan's own, so no list finds them. The calls drawn from seeds do.
+#[test]
+fn marks_of_another_plan_are_in_no_list() {
+    for alter in [
+        Alter::AsksNoOwner,
+        Alter::AsksLastOwner,
+        Alter::FoldAsksNoOwner,
+        Alter::FoldAsksLastOwner,
+    ] {
+        is_not_caught(&altered(alter), Sort::folding(Days::Today));
+        is_not_caught(&altered(alter), Sort::changing_marks(Days::Today));
+    }
+}
+
+/// Asserts that few lists of this sort do not find the engine.
+#[track_caller]
+fn is_not_caught(engine: &(impl Engine + Sync), sort: Sort) {
+    let found = watch_lists(engine, sort, FEWER, &mut Met::default());
+    assert!(found.is_ok(), "{sort}: {found:?}");
 }
 
 /// `SoFar` is not among them: where the outputs so far are wrong, those of some run are, and are found first.

@@ -97,32 +97,33 @@ fn run(watch: &mut Watch<Reference>, budget: u64) -> u64 {
 
 #[test]
 fn a_save_torn_until_q_3_gives_way_to_one_of_another_structure() {
-    let mut watch = begun(BYTE_CHIP, 60);
-    // EXCLUDE, CHECKPOINT and 20 bytes; READ, PUT, EMIT, JUMP; EXCLUDE, CHECKPOINT and 9 bytes.
-    run(&mut watch, 22 + 4 + 11);
+    let mut watch = begun(BYTE_CHIP, 72);
+    // EXCLUDE, CHECKPOINT and 24 bytes; READ, PUT, EMIT, JUMP; EXCLUDE, CHECKPOINT and 9 bytes.
+    run(&mut watch, 26 + 4 + 11);
+    // The plan has 15 bytes, and their sum is 69.
     let first = [
-        0xA1, 0, 0, 0, 0, 0, 0xA2, 3, 0, 1, 0, 0, 0, 0, 0, 0, 0, 0, 0, 0x5A,
+        0xA1, 0, 0, 0, 0, 0, 0xA3, 3, 0, 1, 0, 0, 0, 0, 0, 0, 0, 0, 0, 15, 0, 69, 0, 0x5A,
     ];
-    let torn = [0xA1, 0, 5, 0, 0, 0, 0xA2, 3, 0];
-    assert_eq!(watch.chip()[..20], first);
-    assert_eq!(watch.chip()[20..30], [&torn[..], &[ERASED]].concat());
+    let torn = [0xA1, 0, 5, 0, 0, 0, 0xA3, 3, 0];
+    assert_eq!(watch.chip()[..24], first);
+    assert_eq!(watch.chip()[24..34], [&torn[..], &[ERASED]].concat());
     watch.change_day(vec![0xA5; STATE_BYTES]);
     assert_eq!(watch.sets()[..8], [0b11, 0, 0, 0, 0, 0, 0, 0]);
     recover(&mut watch);
     assert_eq!(watch.tally(), 2);
     // The 9 bytes are erased, then the first reading is taken again and given.
     run(&mut watch, 9);
-    assert_eq!(watch.chip()[20..], [ERASED; 40]);
+    assert_eq!(watch.chip()[24..], [ERASED; 48]);
     run(&mut watch, 4);
     assert_eq!((watch.so_far(), watch.tally()), (&[5][..], 6));
     // The save that comes there holds no cell.
-    run(&mut watch, 2 + 14);
-    let second = [0xA2, 3, 0, 1, 0, 1, 0, 0, 0, 1, 0, 0, 0, 0x5A];
-    assert_eq!(watch.chip()[20..34], second);
+    run(&mut watch, 2 + 18);
+    let second = [0xA3, 3, 0, 1, 0, 1, 0, 0, 0, 1, 0, 0, 0, 15, 0, 69, 0, 0x5A];
+    assert_eq!(watch.chip()[24..42], second);
     // Another cut, and the rest: the third save is stored, and the fourth finds no room.
     watch.cut(vec![0x00; STATE_BYTES]);
     recover(&mut watch);
-    assert_eq!(run(&mut watch, 1000), 4 + 2 + 14 + 4 + 1 + 1);
+    assert_eq!(run(&mut watch, 1000), 4 + 2 + 18 + 4 + 1 + 1);
     assert_eq!(watch.so_far(), [5, 7, -2]);
 }
 
@@ -130,7 +131,7 @@ fn a_save_torn_until_q_3_gives_way_to_one_of_another_structure() {
 fn each_cut_before_and_each_after_the_change() {
     let mut met = Met::default();
     // The steps of two rounds under the sets until Q-3, and of the bytes erased and two rounds under today's.
-    for (page, chip, until, today) in [(BYTE_CHIP, 80, 52, 60), (PAGE_CHIP, 96, 16, 20)] {
+    for (page, chip, until, today) in [(BYTE_CHIP, 100, 60, 72), (PAGE_CHIP, 96, 16, 20)] {
         for change in 0..=until {
             for cut in 0..=today {
                 let mut watch = begun(page, chip);
@@ -146,8 +147,8 @@ fn each_cut_before_and_each_after_the_change() {
             }
         }
     }
-    // Each of the two saves is torn on the byte chip after 1 to 19 bytes, and on the page chip after its first page.
-    let lists = 2 * 19 * 61 + 2 * 21;
+    // Each of the two saves is torn on the byte chip after 1 to 23 bytes, and on the page chip after its first page.
+    let lists = 2 * 23 * 73 + 2 * 21;
     assert_eq!(met.get("changes on torn bytes"), lists);
     assert_eq!(met.get("torn bytes of before the change erased"), lists);
 }

@@ -13,18 +13,18 @@ use reference::machine::SET_WORDS;
 const READINGS: [i32; 3] = [5, 7, -2];
 
 /// The small plan's second and third save, with readings 7 and -2.
-const SECOND: [u8; 20] = [
-    0xA1, 0x00, 0x0C, 0x00, 0x00, 0x00, 0xA2, 0x11, 0x00, 0x0F, 0x00, 0x02, 0x00, 0x00, 0x00, 0x02,
-    0x00, 0x00, 0x00, 0x5A,
+const SECOND: [u8; 24] = [
+    0xA1, 0x00, 0x0C, 0x00, 0x00, 0x00, 0xA3, 0x11, 0x00, 0x0F, 0x00, 0x02, 0x00, 0x00, 0x00, 0x02,
+    0x00, 0x00, 0x00, 0x14, 0x00, 0x44, 0x00, 0x5A,
 ];
-const THIRD: [u8; 20] = [
-    0xA1, 0x00, 0x0A, 0x00, 0x00, 0x00, 0xA2, 0x11, 0x00, 0x0F, 0x00, 0x03, 0x00, 0x00, 0x00, 0x03,
-    0x00, 0x00, 0x00, 0x5A,
+const THIRD: [u8; 24] = [
+    0xA1, 0x00, 0x0A, 0x00, 0x00, 0x00, 0xA3, 0x11, 0x00, 0x0F, 0x00, 0x03, 0x00, 0x00, 0x00, 0x03,
+    0x00, 0x00, 0x00, 0x14, 0x00, 0x44, 0x00, 0x5A,
 ];
 
-/// Its steps with three saves: SET, then for each reading four commands, a CHECKPOINT with 20
+/// Its steps with three saves: SET, then for each reading four commands, a CHECKPOINT with 24
 /// bytes, and JUMP.
-const STEPS: u64 = 1 + 3 * (4 + 1 + 20 + 1);
+const STEPS: u64 = 1 + 3 * (4 + 1 + 24 + 1);
 
 /// A list of the plan on an erased chip of this length.
 fn list(plan: &[u8], chip: usize) -> Watch<'static, Reference> {
@@ -75,38 +75,38 @@ fn fold_onto(watch: &mut Watch<Reference>, length: usize, cut: u64) {
 
 #[test]
 fn a_full_chip_is_folded_and_the_next_save_finds_room() {
-    let mut watch = list(SMALL, 40);
+    let mut watch = list(SMALL, 48);
     recover(&mut watch);
     // All of it, but the third save finds no room.
-    assert_eq!(run(&mut watch, 1000), STEPS - 20);
+    assert_eq!(run(&mut watch, 1000), STEPS - 24);
     assert_eq!(watch.tally(), 19);
     let full = watch.chip().to_vec();
-    let mut new = vec![ERASED; 45];
+    let mut new = vec![ERASED; 53];
     let seven = fold(&mut watch, &mut new, 0, 7);
     assert_eq!((seven.stored, seven.finished), (7, false));
-    assert_eq!((&new[..7], &new[7..]), (&SECOND[..7], &[ERASED; 38][..]));
-    let whole = fold(&mut watch, &mut new, 7, 13);
-    assert_eq!((whole.stored, whole.finished), (20, true));
+    assert_eq!((&new[..7], &new[7..]), (&SECOND[..7], &[ERASED; 46][..]));
+    let whole = fold(&mut watch, &mut new, 7, 17);
+    assert_eq!((whole.stored, whole.finished), (24, true));
     assert_eq!(watch.chip(), full);
     watch.go_on_with(new, vec![0x00; STATE_BYTES]).unwrap();
     recover(&mut watch);
     assert_eq!((watch.tally(), watch.untaken()), (12, 1));
     // JUMP and the third round, whose save is stored now.
-    assert_eq!(run(&mut watch, 1000), 1 + 4 + 1 + 20 + 1);
+    assert_eq!(run(&mut watch, 1000), 1 + 4 + 1 + 24 + 1);
     assert_eq!(watch.so_far(), [5, 12, 10]);
-    assert_eq!(watch.chip()[..20], SECOND);
-    assert_eq!(watch.chip()[20..40], THIRD);
+    assert_eq!(watch.chip()[..24], SECOND);
+    assert_eq!(watch.chip()[24..48], THIRD);
     assert_eq!(watch.met.get("saves behind a fold"), 1);
 }
 
 #[test]
 fn without_a_whole_save_the_plan_begins_again_on_a_blank_chip() {
-    let mut watch = list(SMALL, 40);
+    let mut watch = list(SMALL, 48);
     recover(&mut watch);
-    // The CHECKPOINT and 19 bytes.
-    run(&mut watch, 5 + 1 + 19);
-    fold_onto(&mut watch, 60, 3);
-    assert_eq!(watch.chip(), [ERASED; 60]);
+    // The CHECKPOINT and 23 bytes.
+    run(&mut watch, 5 + 1 + 23);
+    fold_onto(&mut watch, 72, 3);
+    assert_eq!(watch.chip(), [ERASED; 72]);
     recover(&mut watch);
     assert_eq!(watch.tally(), 0);
     assert_eq!(run(&mut watch, 1000), STEPS);
@@ -116,12 +116,12 @@ fn without_a_whole_save_the_plan_begins_again_on_a_blank_chip() {
 #[test]
 fn a_fold_after_each_step_with_a_cut_after_each_byte() {
     for steps in 0..=STEPS {
-        for cut in 0..=20 {
-            let mut watch = list(SMALL, 60);
+        for cut in 0..=24 {
+            let mut watch = list(SMALL, 72);
             recover(&mut watch);
             run(&mut watch, steps);
             // With room for one save, or for all three.
-            let length = if cut % 2 == 0 { 20 } else { 60 };
+            let length = if cut % 2 == 0 { 24 } else { 72 };
             fold_onto(&mut watch, length, cut);
             recover(&mut watch);
             run(&mut watch, 1000);
@@ -134,11 +134,11 @@ fn a_fold_after_each_step_with_a_cut_after_each_byte() {
 fn two_folds_after_each_two_numbers_of_steps() {
     for first in (0..=STEPS).step_by(3) {
         for second in (0..=STEPS).step_by(5) {
-            let mut watch = list(SMALL, 60);
-            for (steps, length) in [(first, 41), (second, 60)] {
+            let mut watch = list(SMALL, 72);
+            for (steps, length) in [(first, 49), (second, 72)] {
                 recover(&mut watch);
                 run(&mut watch, steps);
-                fold_onto(&mut watch, length, steps % 20);
+                fold_onto(&mut watch, length, steps % 24);
             }
             recover(&mut watch);
             run(&mut watch, 1000);
@@ -156,18 +156,18 @@ const SET_POINT: [u8; 15] = [
 #[test]
 fn a_fold_before_and_after_the_change_of_day() {
     // The steps of two rounds under the sets until Q-3.
-    for before in 0..=52 {
+    for before in 0..=60 {
         for folds_first in [true, false] {
-            let mut watch = list(&SET_POINT, 80);
+            let mut watch = list(&SET_POINT, 100);
             watch.begin_until();
             recover(&mut watch);
             run(&mut watch, before);
             if folds_first {
-                fold_onto(&mut watch, 50, before % 20);
+                fold_onto(&mut watch, 60, before % 24);
             }
             watch.change_day(vec![0x00; STATE_BYTES]);
             if !folds_first {
-                fold_onto(&mut watch, 50, before % 20);
+                fold_onto(&mut watch, 60, before % 24);
             }
             recover(&mut watch);
             run(&mut watch, 1000);

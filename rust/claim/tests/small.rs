@@ -42,12 +42,12 @@ fn recover(watch: &mut Watch<Reference>) {
 
 #[test]
 fn the_tally_when_cut_after_33_bytes() {
-    let mut watch = small(BYTE_CHIP, 60);
+    let mut watch = small(BYTE_CHIP, 72);
     recover(&mut watch);
     // SET, READ, ADD, EMIT, EXCLUDE, and the CHECKPOINT that begins to save.
     run(&mut watch, 6);
     assert_eq!(watch.tally(), 5);
-    run(&mut watch, 19);
+    run(&mut watch, 23);
     assert_eq!(watch.tally(), 5);
     // The final byte.
     run(&mut watch, 1);
@@ -55,8 +55,8 @@ fn the_tally_when_cut_after_33_bytes() {
     // JUMP, and READ to EXCLUDE again.
     run(&mut watch, 5);
     assert_eq!(watch.tally(), 11);
-    // The CHECKPOINT and 13 bytes more.
-    run(&mut watch, 14);
+    // The CHECKPOINT and 9 bytes more.
+    run(&mut watch, 10);
     assert_eq!(
         (watch.tally(), watch.chip()[32], watch.chip()[33]),
         (11, 0x00, 0xFF)
@@ -64,17 +64,17 @@ fn the_tally_when_cut_after_33_bytes() {
     watch.cut(vec![0x00; STATE_BYTES]);
     recover(&mut watch);
     assert_eq!((watch.tally(), watch.untaken()), (6, 2));
-    // The 13 bytes are erased, then the second round comes again and the third.
-    assert_eq!(run(&mut watch, 13), (4, 13));
-    assert_eq!((watch.tally(), watch.chip()[20]), (6, 0xFF));
-    assert_eq!(run(&mut watch, 1000), (5, 2 * 26 + 1));
+    // The 9 bytes are erased, then the second round comes again and the third.
+    assert_eq!(run(&mut watch, 9), (4, 9));
+    assert_eq!((watch.tally(), watch.chip()[24]), (6, 0xFF));
+    assert_eq!(run(&mut watch, 1000), (5, 2 * 30 + 1));
     assert_eq!((watch.tally(), watch.so_far()), (19, &[5, 12, 10][..]));
     assert_eq!(watch.met.get("repeated outputs"), 1);
 }
 
 #[test]
 fn a_save_passed_over_counts_at_once() {
-    let mut watch = small(BYTE_CHIP, 19);
+    let mut watch = small(BYTE_CHIP, 23);
     recover(&mut watch);
     run(&mut watch, 6);
     assert_eq!((watch.tally(), watch.met.get("saves passed over")), (6, 1));
@@ -133,10 +133,10 @@ fn cut_twice(page: usize, chip: usize, steps: u64) -> (u64, u64) {
 
 #[test]
 fn every_cut_and_every_second_cut() {
-    let (torn, in_erasing) = cut_twice(BYTE_CHIP, 60, steps(20));
-    // The first cut tears each save after 1 to 19 bytes. Of such a number b, b - 1 second cuts fall in erasing.
-    assert!(torn >= 31 * 3 * 19, "{torn}");
-    assert_eq!(in_erasing, 3 * (0..19).sum::<u64>());
+    let (torn, in_erasing) = cut_twice(BYTE_CHIP, 72, steps(24));
+    // The first cut tears each save after 1 to 23 bytes. Of such a number b, b - 1 second cuts fall in erasing.
+    assert!(torn >= 31 * 3 * 23, "{torn}");
+    assert_eq!(in_erasing, 3 * (0..23).sum::<u64>());
 }
 
 #[test]

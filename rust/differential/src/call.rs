@@ -53,16 +53,16 @@ impl Entry {
         }
     }
 
-    /// The refusals that its calls can get. A fold is lent no state, so it has no 10.
+    /// The refusals that its calls can get. A fold is lent no state, so it has no 10, and it takes A2
+    /// marks, so it has no 15.
     pub fn refusals(self) -> impl Iterator<Item = usize> {
-        let last = match self {
-            Entry::Check => 8,
-            Entry::Analyse => 9,
-            Entry::Run | Entry::PageRun => 11,
-            Entry::Recover | Entry::PageRecover => 12,
-            Entry::Fold => 14,
-        };
-        (1..=last).filter(move |number| self != Entry::Fold || *number != 10)
+        (1..=16).filter(move |number| match self {
+            Entry::Check => *number <= 8,
+            Entry::Analyse => *number <= 9,
+            Entry::Run | Entry::PageRun => *number <= 11,
+            Entry::Recover | Entry::PageRecover => !(13..=14).contains(number),
+            Entry::Fold => ![10, 15].contains(number),
+        })
     }
 
     /// The page length of its chips; check and analyse have none.

@@ -1,7 +1,7 @@
 //! What a hostile call is made of: plans that check refuses, chips that recovery refuses, and buffers that are too short
 //! or too long.
 
-use reference::journal::{read, ERASED, MARK, MARK_END, MAX_CHIP, RECORD};
+use reference::journal::{read, ERASED, MARK_A2, MARK_A3, MARK_END, MAX_CHIP, RECORD};
 use reference::program::{
     EMIT, END, EXCLUDE, FIRST_INSTRUCTION, GET, JUMP, LENGTHS, MAX_BYTES, PUT,
 };
@@ -12,7 +12,7 @@ use crate::rng::Rng;
 
 /// A plan that is mostly refused, by each of the refusals 1 to 8: the accepted one with a fault, or another.
 pub fn plan(rng: &mut Rng, accepted: &[u8]) -> Vec<u8> {
-    match rng.below(14) {
+    match rng.below(15) {
         0 => wrong_length(rng, accepted),
         1 => {
             let unknown = rng.pick(&[0x00, 0x0F, 0x10, 0x7F, 0x81, 0xFF]);
@@ -21,7 +21,7 @@ pub fn plan(rng: &mut Rng, accepted: &[u8]) -> Vec<u8> {
         2 => cut(rng, accepted),
         3 => no_such_cell(rng, accepted),
         4 => bad_table(rng, accepted),
-        5 => too_many(rng),
+        5 | 14 => too_many(rng),
         6 => no_end(rng, accepted),
         7 => bad_target(rng, accepted),
         8..11 => mutated(rng),
@@ -166,7 +166,7 @@ pub fn filling(rng: &mut Rng, plan: &[u8], mut chip: Vec<u8>, page: usize) -> Op
         _ => rng.pick(&filling),
     };
     let any = rng.below(255) as u8;
-    chip[at] = rng.pick(&[RECORD, MARK, MARK_END, 0x00, 0xFE, any]);
+    chip[at] = rng.pick(&[RECORD, MARK_A2, MARK_A3, MARK_END, 0x00, 0xFE, any]);
     Some(chip)
 }
 
@@ -174,7 +174,7 @@ pub fn filling(rng: &mut Rng, plan: &[u8], mut chip: Vec<u8>, page: usize) -> Op
 pub fn chip(rng: &mut Rng, sound: Vec<u8>) -> Vec<u8> {
     match rng.below(8) {
         0 => {
-            let some = [RECORD, MARK, MARK_END, 0, 1, 2, 3, ERASED];
+            let some = [RECORD, MARK_A2, MARK_A3, MARK_END, 0, 1, 2, 3, ERASED];
             (0..rng.below(40)).map(|_| rng.pick(&some)).collect()
         }
         1 => (0..rng.below(100)).map(|_| rng.byte()).collect(),

@@ -1,33 +1,35 @@
 //! What random calls of folding are lent: old chips, and new ones on which a part of the save
 //! stands, right or with a fault.
 
-use reference::folding::{folded, store};
-use reference::journal::{read, BYTE_CHIP, ERASED, MARK, MAX_CHIP, RECORD};
+use reference::folding::{save_bytes, store};
+use reference::journal::{read, Kind, BYTE_CHIP, ERASED, MARK_A2, MARK_A3, MAX_CHIP, RECORD};
 use reference::refusal::NEW_CHIP_DIFFERS;
 
-use crate::journals::{every_cell, filled, left, stored};
+use crate::journals::{every_cell, filled, left, stored_with};
 use crate::rng::Rng;
 use crate::states::edge;
 
 /// An old chip for an accepted plan that saves: left by a list of calls with these sets, or made by
-/// hand. It is seldom large, since the reference takes long for such a one.
+/// hand; with A3 marks, or with A2 ones as until request Q-8. It is seldom large, since the reference
+/// takes long for such a one.
 pub fn old_chip(rng: &mut Rng, plan: &[u8], sets: &[u64]) -> Vec<u8> {
+    let kind = rng.pick(&Kind::ALL);
     match rng.below(200) {
         0..8 => vec![ERASED; rng.below(100)],
-        8..80 => left(rng, plan, sets),
-        80..95 => every_cell(rng, plan),
+        8..80 => left(rng, plan, sets, kind),
+        80..95 => every_cell(rng, plan, kind),
         95 => {
             let length = rng.pick(&[4_000, 20_000, MAX_CHIP]);
             filled(rng, plan, length, BYTE_CHIP)
         }
-        _ => stored(rng, plan, BYTE_CHIP),
+        _ => stored_with(rng, plan, BYTE_CHIP, kind),
     }
 }
 
 /// The save that an old chip folds to, in bytes: none where the chip has no whole one.
 pub fn save_of(plan: &[u8], old: &[u8]) -> Vec<u8> {
     let held = read(plan, old, BYTE_CHIP).expect("the old chip is sound");
-    folded(&held).map_or(vec![], |save| save.bytes())
+    save_bytes(plan, &held, Kind::A3)
 }
 
 /// A new chip and the number of bytes that are stored on it, with the save that it is to get.
@@ -114,7 +116,8 @@ impl NewChip {
         let front = self.front();
         let last = (self.bytes.len() - front).checked_sub(1)?;
         let any = rng.below(255) as u8;
-        self.bytes[front + edge(rng, last)] = rng.pick(&[RECORD, MARK, 0x00, 0xFE, any]);
+        self.bytes[front + edge(rng, last)] =
+            rng.pick(&[RECORD, MARK_A2, MARK_A3, 0x00, 0xFE, any]);
         Some("a wrong byte behind the number")
     }
 

@@ -1,6 +1,7 @@
-//! Random chips of either kind: as the engine leaves them, and altered.
+//! Random chips of either kind, with marks of either kind: as the engine leaves them, or left them until
+//! request Q-8, and altered.
 
-use reference::journal::{Mark, Save, BYTE_CHIP, ERASED, MARK, MARK_END, RECORD};
+use reference::journal::{Kind, Mark, Save, BYTE_CHIP, ERASED, MARK_A2, MARK_A3, MARK_END, RECORD};
 use reference::machine::State;
 use reference::program::{CHECKPOINT, END, EXCLUDE, LENGTHS};
 use reference::{check, Machine};
@@ -44,8 +45,8 @@ fn count_from(rng: &mut Rng, least: u32) -> u32 {
     }
 }
 
-/// A save that is sound after the mark.
-fn save(rng: &mut Rng, plan: &[u8], last: Mark) -> Save {
+/// A save of the plan's that is sound after the mark.
+pub(crate) fn save(rng: &mut Rng, plan: &[u8], last: Mark, kind: Kind) -> Save {
     let cells = check(plan).expect("the plan is accepted").cells as usize;
     let mut fresh: Vec<u8> = (0..cells).map(|cell| cell as u8).collect();
     let size = match rng.below(4) {
@@ -59,7 +60,8 @@ fn save(rng: &mut Rng, plan: &[u8], last: Mark) -> Save {
             let value = match rng.below(8) {
                 0 => 0,
                 1..3 => -1,
-                3..5 => 0x5AA2_A100,
+                3 => 0x5AA2_A100,
+                4 => 0x5AA3_A100,
                 _ => rng.word() as i32,
             };
             (cell, value)
@@ -74,44 +76,57 @@ fn save(rng: &mut Rng, plan: &[u8], last: Mark) -> Save {
             exclude: rng.pick(&excludes),
             readings: count_from(rng, last.readings),
             outputs: count_from(rng, last.outputs),
+            owner: kind.owner(plan),
         },
     }
 }
 
-/// What counts as the mark before the first save.
-const FIRST: Mark = Mark {
-    place: 1,
-    exclude: 0,
-    readings: 0,
-    outputs: 0,
-};
-
 /// A chip of this page length as the engine leaves it: sound saves, often a part of one more, and FF.
 /// The part ends with a page, or anywhere in one, which recovery takes too.
 pub fn stored(rng: &mut Rng, plan: &[u8], page: usize) -> Vec<u8> {
+    stored_with(rng, plan, page, Kind::A3)
+}
+
+/// The same with marks of this kind.
+pub fn stored_with(rng: &mut Rng, plan: &[u8], page: usize, kind: Kind) -> Vec<u8> {
     let mut chip = Vec::new();
-    let mut last = FIRST;
+    let mut last = Mark::FIRST;
     for _ in 0..rng.below(4) {
-        let save = save(rng, plan, last);
+        let save = save(rng, plan, last, kind);
         last = save.mark;
         chip.extend(save.pages(page));
     }
-    let next = save(rng, plan, last).bytes();
-    let part = rng.below(next.len());
-    let in_page = rng.pick(&[0, part % page]);
-    chip.extend(&next[..part - in_page]);
+    let next = save(rng, plan, last, kind);
+    let next = part_of(rng, next);
+    let in_page = rng.pick(&[0, next.len() % page]);
+    chip.extend(&next[..next.len() - in_page]);
     let erased = rng.pick(&[0, 0, 1, 7, 40]);
     chip.resize((chip.len() + erased).next_multiple_of(page), ERASED);
     chip
+}
+
+/// A beginning of the save, often one that ends within its mark. What a torn A3 mark names may be anything.
+fn part_of(rng: &mut Rng, mut save: Save) -> Vec<u8> {
+    if save.mark.kind() == Kind::A3 && rng.below(2) == 0 {
+        save.mark.owner = Some(rng.word() as u32);
+    }
+    let mark_len = save.mark.kind().mark_len();
+    let mut bytes = save.bytes();
+    let part = match rng.below(2) {
+        0 => rng.below(bytes.len()),
+        _ => bytes.len() - 1 - rng.below(mark_len),
+    };
+    bytes.truncate(part);
+    bytes
 }
 
 /// A chip of this length, which is a number of pages, that is filled with sound saves, as many as
 /// there is room for, and FF.
 pub fn filled(rng: &mut Rng, plan: &[u8], length: usize, page: usize) -> Vec<u8> {
     let mut chip = Vec::new();
-    let mut last = FIRST;
+    let mut last = Mark::FIRST;
     loop {
-        let save = save(rng, plan, last);
+        let save = save(rng, plan, last, Kind::A3);
         let pages = save.pages(page);
         if chip.len() + pages.len() > length {
             chip.resize(length, ERASED);
@@ -124,9 +139,9 @@ pub fn filled(rng: &mut Rng, plan: &[u8], length: usize, page: usize) -> Vec<u8>
 
 /// A byte chip of two saves, of which the last holds every cell with a value that is not 0, and
 /// some FF.
-pub fn every_cell(rng: &mut Rng, plan: &[u8]) -> Vec<u8> {
-    let first = save(rng, plan, FIRST);
-    let mut every = save(rng, plan, first.mark);
+pub fn every_cell(rng: &mut Rng, plan: &[u8], kind: Kind) -> Vec<u8> {
+    let first = save(rng, plan, Mark::FIRST, kind);
+    let mut every = save(rng, plan, first.mark, kind);
     let mut cells: Vec<u8> = (0..=plan[0]).rev().collect();
     cells.rotate_left(rng.below(usize::from(plan[0])));
     let any = 1 | rng.word() as i32;
@@ -136,10 +151,11 @@ pub fn every_cell(rng: &mut Rng, plan: &[u8]) -> Vec<u8> {
     [first.bytes(), every.bytes(), erased].concat()
 }
 
-/// A byte chip as a list of recoveries, runs and cuts leaves it. Any sets will do: no save is
-/// unsound for the cells that it holds.
-pub fn left(rng: &mut Rng, plan: &[u8], sets: &[u64]) -> Vec<u8> {
-    let machine = Machine::new(plan, sets, BYTE_CHIP).expect("plan and sets are accepted");
+/// A byte chip as a list of recoveries, runs and cuts leaves it, with marks of this kind. Any sets will
+/// do: no save is unsound for the cells that it holds.
+pub fn left(rng: &mut Rng, plan: &[u8], sets: &[u64], kind: Kind) -> Vec<u8> {
+    let machine = Machine::of_kind(plan, sets, BYTE_CHIP, kind);
+    let machine = machine.expect("plan and sets are accepted");
     let mut chip = vec![ERASED; rng.below(500)];
     for _ in 0..1 + rng.below(3) {
         let mut state = State::first();
@@ -163,7 +179,7 @@ pub fn altered(rng: &mut Rng, mut chip: Vec<u8>) -> Vec<u8> {
         let at = rng.below(chip.len());
         match rng.below(6) {
             0 => chip[at] = rng.byte(),
-            1 => chip[at] = rng.pick(&[RECORD, MARK, MARK_END, ERASED, 0x00]),
+            1 => chip[at] = rng.pick(&[RECORD, MARK_A2, MARK_A3, MARK_END, ERASED, 0x00]),
             2 => chip[at] ^= 1 << rng.below(8),
             3 => chip[at] = chip[at].wrapping_sub(1),
             4 => chip.truncate(at),

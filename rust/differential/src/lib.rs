@@ -10,6 +10,7 @@ pub mod faults;
 pub mod features;
 pub mod folds;
 pub mod journals;
+pub mod owners;
 pub mod plans;
 pub mod seeded;
 pub mod states;

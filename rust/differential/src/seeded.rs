@@ -12,6 +12,7 @@ use crate::examples::{programs, SMALL};
 use crate::faults;
 use crate::folds::{old_chip, save_of, NewChip};
 use crate::journals::{self, filled, stored};
+use crate::owners;
 use crate::plans::{crowded, large, long, reversed, stream, valid, woven, Draft};
 use crate::rng::Rng;
 use crate::states::{faulty, in_save, sound, value, Shape};
@@ -262,7 +263,11 @@ impl Content {
 
     /// Spoils something of what the entry is lent, and gives the fault's name.
     fn spoil(&mut self, rng: &mut Rng, entry: Entry) -> &'static str {
-        if let Some(fault) = self.spoil_kind(rng, entry) {
+        let is_saving = reference::check(&self.plan).is_ok() && self.has_checkpoint();
+        if let Some(fault) = is_saving.then(|| self.spoil_kind(rng, entry)).flatten() {
+            return fault;
+        }
+        if let Some(fault) = is_saving.then(|| self.spoil_marks(rng, entry)).flatten() {
             return fault;
         }
         match (entry, rng.below(10)) {
@@ -303,7 +308,7 @@ impl Content {
                 *bytes = faults::long_chip(rng, std::mem::take(bytes));
                 "a new chip that is too long"
             }
-            1..3 => {
+            1 => {
                 self.chip = faults::chip(rng, std::mem::take(&mut self.chip));
                 "an altered chip"
             }
@@ -313,11 +318,9 @@ impl Content {
 
     /// Now and then spoils something that has to do with the kinds of chip, where the plan is accepted and saves.
     fn spoil_kind(&mut self, rng: &mut Rng, entry: Entry) -> Option<&'static str> {
-        let is_accepted = reference::check(&self.plan).is_ok();
         let page = entry.page();
         let other = BYTE_CHIP + PAGE_CHIP - page;
         match (entry, rng.below(16)) {
-            _ if !is_accepted || !self.has_checkpoint() => None,
             (Entry::Recover | Entry::PageRecover | Entry::Fold, 0..2) => {
                 self.chip = stored(rng, &self.plan, other);
                 self.fill_page(page);
@@ -340,6 +343,44 @@ impl Content {
             (Entry::PageRun, 4..6) => self.leave_no_filling(rng, page),
             _ => None,
         }
+    }
+
+    /// Now and then spoils the marks of the chip that a recovery or a fold reads, where the plan is accepted and saves.
+    fn spoil_marks(&mut self, rng: &mut Rng, entry: Entry) -> Option<&'static str> {
+        let page = entry.page();
+        let of_fold = match entry {
+            Entry::Recover | Entry::PageRecover => false,
+            Entry::Fold => true,
+            _ => return None,
+        };
+        let (plan, chip) = (&self.plan, &self.chip);
+        let (name, other) = match rng.below(40) {
+            0..4 if !of_fold => ("A2 marks", owners::a2_marks(rng, plan, page)),
+            4..6 if !of_fold => ("a torn A2 alone", owners::torn_a2(rng, plan, page)),
+            6..8 => (
+                "marks of both kinds",
+                owners::both_kinds(rng, plan, chip, page)?,
+            ),
+            8..10 => (
+                "a mark of another length",
+                owners::another_plan(rng, plan, chip, page, false)?,
+            ),
+            10..12 => (
+                "a mark of another sum",
+                owners::another_plan(rng, plan, chip, page, true)?,
+            ),
+            12..14 => (
+                "an earlier mark of another plan",
+                owners::earlier_of_another_plan(rng, plan, chip, page)?,
+            ),
+            14 => (
+                "a chip of another plan",
+                owners::of_another_plan(rng, plan, page, &journals::plans()),
+            ),
+            _ => return None,
+        };
+        self.chip = other;
+        Some(name)
     }
 
     /// Makes the chip a number of whole pages, so that its length is no ground for a refusal.

@@ -2,6 +2,7 @@
 //! give 10.
 
 use claim::calls::spoiled;
+use reference::journal::Kind;
 use reference::layout::{NUMBERS_AT, STATE_BYTES};
 use reference::machine::{Mark, State, Stop, MAX_CELLS};
 use reference::program::{CHECKPOINT, EXCLUDE, FIRST_INSTRUCTION, LENGTHS};
@@ -43,7 +44,7 @@ impl Shape {
     /// The length of the save that the state would begin, without filling.
     pub fn save(&self, state: &State) -> usize {
         let stored = |mark: &&Mark| matches!(mark, Mark::Include | Mark::Pending);
-        6 * state.marks[..self.cells].iter().filter(stored).count() + 14
+        6 * state.marks[..self.cells].iter().filter(stored).count() + Kind::A3.mark_len()
     }
 
     /// The same with its filling.
@@ -272,7 +273,7 @@ fn past_end(rng: &mut Rng, shape: &Shape, chip: usize, state: &mut State) -> Opt
 
 fn saving_elsewhere(rng: &mut Rng, shape: &Shape, _: usize, state: &mut State) -> Option<Vec<u8>> {
     state.place = rng.pick(&shape.commands);
-    state.saving = Some((rng.below(14) / shape.page * shape.page) as u32);
+    state.saving = Some((rng.below(18) / shape.page * shape.page) as u32);
     state.erase = 0;
     let elsewhere = !shape.checkpoints.contains(&state.place);
     elsewhere.then(|| state.to_bytes().into())

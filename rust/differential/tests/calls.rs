@@ -6,22 +6,23 @@ use std::env;
 use std::ops::Range;
 
 use claim::altered::{Alter, Altered};
-use claim::{Engine, LentFold, Met};
+use claim::{Engine, Lent, LentFold, Met};
 use differential::call::{
     agree, answered, difference, set_lower, words, Answer, Call, Callee, Entry, Library, Reference,
     SET_WORDS,
 };
+use differential::owners::{self, torn_mark};
 use differential::seeded::{seeded, Seeded};
 use differential::states::{FAULTS, FAULTS_OF_PAGES};
-use reference::folding::folded;
-use reference::journal::{read, Chip, Save, BYTE_CHIP, ERASED, MAX_CHIP};
+use reference::folding::save_bytes;
+use reference::journal::{owner, read, read_as, Chip, Kind, Save, BYTE_CHIP, ERASED, MAX_CHIP};
 use reference::machine::State;
 
 /// How many readings or outputs the library takes at a time.
 const STRETCH: u64 = 1_024;
 
 /// The results by number, as they are counted.
-const RESULTS: [&str; 15] = [
+const RESULTS: [&str; 17] = [
     "accepted",
     "refused 1",
     "refused 2",
@@ -37,6 +38,8 @@ const RESULTS: [&str; 15] = [
     "refused 12",
     "refused 13",
     "refused 14",
+    "refused 15",
+    "refused 16",
 ];
 
 /// How runs end, by number, as they are counted.
@@ -54,7 +57,7 @@ const ENDS: [&str; 7] = [
 const EACH_REFUSAL: u64 = 10;
 
 /// The same for what else recoveries must meet.
-const OF_RECOVERIES: [(&str, u64); 14] = [
+const OF_RECOVERIES: [(&str, u64); 23] = [
     ("an altered plan", 50),
     ("too few words of DE and RO", 10),
     ("a state of another length", 10),
@@ -69,6 +72,15 @@ const OF_RECOVERIES: [(&str, u64); 14] = [
     ("recoveries with bytes to erase", 100),
     ("recoveries with a last EXCLUDE", 50),
     ("chips over 3,000 bytes", 2),
+    ("A2 marks", 5),
+    ("a torn A2 alone", 3),
+    ("marks of both kinds", 3),
+    ("a mark of another length", 3),
+    ("a mark of another sum", 3),
+    ("an earlier mark of another plan", 2),
+    ("a chip of another plan", 2),
+    ("16, by an earlier mark alone", 2),
+    ("torn marks that name another plan", 1),
 ];
 
 /// The same for what else runs must meet.
@@ -129,12 +141,12 @@ const LENGTHS: [(&str, u64); 6] = [
 ];
 
 /// The same for what else folds must meet.
-const OF_FOLDS: [(&str, u64); 40] = [
+const OF_FOLDS: [(&str, u64); 50] = [
     ("an altered plan", 40),
     ("too few words of DE and RO", 10),
     ("a chip that is too long", 10),
     ("a new chip that is too long", 5),
-    ("an altered chip", 10),
+    ("an altered chip", 5),
     ("a chip of the other kind", 10),
     ("a wrong byte before the number", 3),
     ("a wrong byte behind the number", 6),
@@ -170,10 +182,59 @@ const OF_FOLDS: [(&str, u64); 40] = [
     ("old chips with a cell saved twice", 60),
     ("old chips with a cell of value 0", 70),
     ("old chips with records that do not rise", 60),
+    ("marks of both kinds", 3),
+    ("a mark of another length", 3),
+    ("a mark of another sum", 3),
+    ("an earlier mark of another plan", 2),
+    ("a chip of another plan", 2),
+    ("16, by an earlier mark alone", 2),
+    ("torn marks that name another plan", 1),
+    ("folds of A2 marks", 150),
+    ("folds of A2 marks that are finished", 100),
+    ("folds of a torn A2 alone", 10),
 ];
 
+/// The same for how many bytes of a torn mark stand on the chip; a recovery refuses those of A2.
+const TORN_A3: [&str; 17] = [
+    "an A3 mark torn after 1 byte",
+    "an A3 mark torn after 2",
+    "an A3 mark torn after 3",
+    "an A3 mark torn after 4",
+    "an A3 mark torn after 5",
+    "an A3 mark torn after 6",
+    "an A3 mark torn after 7",
+    "an A3 mark torn after 8",
+    "an A3 mark torn after 9",
+    "an A3 mark torn after 10",
+    "an A3 mark torn after 11",
+    "an A3 mark torn after 12",
+    "an A3 mark torn after 13",
+    "an A3 mark torn after 14",
+    "an A3 mark torn after 15",
+    "an A3 mark torn after 16",
+    "an A3 mark torn after 17",
+];
+const TORN_A2: [&str; 13] = [
+    "an A2 mark torn after 1 byte",
+    "an A2 mark torn after 2",
+    "an A2 mark torn after 3",
+    "an A2 mark torn after 4",
+    "an A2 mark torn after 5",
+    "an A2 mark torn after 6",
+    "an A2 mark torn after 7",
+    "an A2 mark torn after 8",
+    "an A2 mark torn after 9",
+    "an A2 mark torn after 10",
+    "an A2 mark torn after 11",
+    "an A2 mark torn after 12",
+    "an A2 mark torn after 13",
+];
+
+/// How many of ten thousand calls must at least meet each of them.
+const EACH_TORN: u64 = 3;
+
 /// Two faults of a fold, by their refusals, of which the first is given: what is met of each, too.
-const BOTH: [(&str, u32, u32); 14] = [
+const BOTH: [(&str, u32, u32); 20] = [
     ("9, where 11 has a ground", 9, 11),
     ("9, where 12 has a ground", 9, 12),
     ("9, where 13 has a ground", 9, 13),
@@ -188,6 +249,12 @@ const BOTH: [(&str, u32, u32); 14] = [
     ("the plan's refusal, where 11 has a ground", 8, 11),
     ("the plan's refusal, where 13 has a ground", 8, 13),
     ("the plan's refusal, where 14 has a ground", 8, 14),
+    ("the plan's refusal, where 16 has a ground", 8, 16),
+    ("9, where 16 has a ground", 9, 16),
+    ("11, where 16 has a ground", 11, 16),
+    ("12, where a mark is another plan's", 12, 16),
+    ("16, where 13 has a ground", 16, 13),
+    ("16, where 14 has a ground", 16, 14),
 ];
 
 fn calls(of_the_gate: u64) -> u64 {
@@ -202,7 +269,7 @@ fn agreed(seed: u64, call: &Call) -> Answer {
 
 /// Makes the calls of the seeds from 0 on, counts what they met, and asserts that half of them are
 /// hostile and that each refusal that the entry has, and what the floors say, is met often enough.
-fn make_calls(entry: Entry, calls: u64, floors: &[(&str, u64)]) {
+fn make_calls(entry: Entry, calls: u64, floors: &[(&str, u64)]) -> Met {
     let mut met = Met::default();
     for seed in 0..calls {
         let Seeded { call, faults } = seeded(entry, seed);
@@ -223,6 +290,7 @@ fn make_calls(entry: Entry, calls: u64, floors: &[(&str, u64)]) {
         met.assert_floors_per("calls", &[(RESULTS[refusal], EACH_REFUSAL)]);
     }
     met.assert_floors_per("calls", floors);
+    met
 }
 
 /// Counts a call's only fault, which must have its refusal where it has just one. A call without a fault must be accepted.
@@ -247,11 +315,19 @@ fn refusal_of(entry: Entry, fault: &str) -> Option<u32> {
     match (fault, entry) {
         ("a save that fits but for its filling", _) => Some(10),
         (_, Entry::Fold) => refusal_of_fold(fault),
+        (_, Entry::Recover | Entry::PageRecover) if of_marks(fault).is_some() => of_marks(fault),
         // A run may find that the state does not fit the chip.
         ("a chip that is no whole pages", Entry::PageRecover) => Some(11),
         ("filling with a wrong byte", _) => Some(12),
         _ => of_state.any(|(name, _)| *name == fault).then_some(10),
     }
+}
+
+/// The same of a chip's marks in a recovery.
+fn of_marks(fault: &str) -> Option<u32> {
+    let mut of_marks = owners::FAULTS.iter();
+    let found = of_marks.find(|(name, _)| *name == fault);
+    found.map(|(_, refusal)| *refusal)
 }
 
 /// The same of a fold; an altered chip may be sound.
@@ -264,7 +340,7 @@ fn refusal_of_fold(fault: &str) -> Option<u32> {
         | "a number that is too high"
         | "a number that is too low" => Some(13),
         "a new chip that is too short" => Some(14),
-        _ => None,
+        _ => of_marks(fault),
     }
 }
 
@@ -291,8 +367,39 @@ fn count_lent(met: &mut Met, call: &Call) {
     count_all(met, &named);
 }
 
+/// Counts of the marks on the chip that a recovery or a fold read, to what its remainder tears one and whose it is.
+fn count_marks(met: &mut Met, call: &Call, result: u32) {
+    let (plan, chip, page) = (call.plan.lent(), call.chip.lent(), call.entry.page());
+    if result != 0 && result != 12 && result < 15 {
+        return;
+    }
+    let Ok(held) = read(plan, chip, page) else {
+        return;
+    };
+    let owners: Vec<_> = held.saves.iter().map(|save| save.mark.owner).collect();
+    let is_last_own = owners.last() == Some(&Some(owner(plan)));
+    let mut named = vec![("16, by an earlier mark alone", result == 16 && is_last_own)];
+    if let Some((kind, stored)) = torn_mark(plan, chip, page) {
+        let torn = &chip[held.end..];
+        let names = |owner: &[u8]| !torn.windows(owner.len()).any(|bytes| bytes == owner);
+        let is_named = kind == Kind::A3 && stored == 17;
+        named.extend([
+            (
+                "torn marks that name another plan",
+                is_named && result == 0 && names(&owner(plan).to_le_bytes()),
+            ),
+            match kind {
+                Kind::A2 => (TORN_A2[stored - 1], true),
+                Kind::A3 => (TORN_A3[stored - 1], true),
+            },
+        ]);
+    }
+    count_all(met, &named);
+}
+
 fn count_recovery(met: &mut Met, call: &Call, result: u32, left: &Call) {
     count_lent(met, call);
+    count_marks(met, call, result);
     if result != 0 {
         return;
     }
@@ -393,6 +500,7 @@ fn count_stretches(met: &mut Met, left: &Call) {
 
 fn count_fold(met: &mut Met, call: &Call, faults: &[&'static str], result: u32, left: &Call) {
     count_lent(met, call);
+    count_marks(met, call, result);
     count_both(met, faults, result);
     let (old, new) = (call.chip.len(), call.new_chip.len());
     let named = [
@@ -408,12 +516,28 @@ fn count_fold(met: &mut Met, call: &Call, faults: &[&'static str], result: u32, 
     ];
     count_all(met, &named);
     if result == 0 {
-        let held = read(call.plan.lent(), call.chip.lent(), BYTE_CHIP);
-        let held = held.expect("the old chip is sound");
+        let (plan, chip) = (call.plan.lent(), call.chip.lent());
+        let held = read(plan, chip, BYTE_CHIP).expect("the old chip is sound");
         count_old(met, &held);
-        let save = folded(&held).map_or(vec![], |save| save.bytes());
+        let save = save_bytes(plan, &held, Kind::A3);
         count_stored(met, call, left, &save);
+        let is_a2 = read_as(plan, chip, BYTE_CHIP, Kind::A3).is_err();
+        count_old_marks(met, is_a2, &held, left);
     }
+}
+
+/// Counts accepted folds of chips with A2 marks.
+fn count_old_marks(met: &mut Met, is_a2: bool, held: &Chip, left: &Call) {
+    let (is_whole, is_finished) = (!held.saves.is_empty(), left.folded().finished == 1);
+    let named = [
+        ("folds of A2 marks", is_a2 && is_whole),
+        (
+            "folds of A2 marks that are finished",
+            is_a2 && is_whole && is_finished,
+        ),
+        ("folds of a torn A2 alone", is_a2 && !is_whole),
+    ];
+    count_all(met, &named);
 }
 
 /// Counts two faults of which the one with the lower refusal shows.
@@ -424,7 +548,8 @@ fn count_both(met: &mut Met, faults: &[&'static str], result: u32) {
         _ => refusal_of_fold(fault),
     };
     let mut refusals: Vec<u32> = faults.iter().filter_map(|fault| refusal(fault)).collect();
-    refusals.sort_unstable();
+    // 16 comes between 12 and 13.
+    refusals.sort_unstable_by_key(|&number| if number == 16 { 25 } else { 2 * number });
     for (name, first, second) in BOTH {
         // Each of 1 to 8 is the plan's.
         let is_met = refusals == [first, second] && result.max(8) == first;
@@ -453,7 +578,7 @@ fn count_stored(met: &mut Met, call: &Call, left: &Call, save: &[u8]) {
             no_budget && is_finished && !is_empty,
         ),
         ("folds of an empty save", is_empty),
-        ("saves of 256 records", save.len() == 6 * 256 + 14),
+        ("saves of 256 records", save.len() == 6 * 256 + 18),
         ("FF within the save", save.contains(&ERASED)),
         ("numbers that FF leaves open", ends_with_ff),
         (
@@ -501,9 +626,18 @@ fn analyses() {
     make_calls(Entry::Analyse, calls(25_000), &[]);
 }
 
+/// Asserts that the calls tore a mark of either kind after each of its bytes.
+fn assert_torn(met: &Met) {
+    for name in TORN_A3.iter().chain(&TORN_A2) {
+        let (met, calls) = (met.get(name), met.get("calls"));
+        assert!(10_000 * met >= EACH_TORN * calls, "{met} {name}");
+    }
+}
+
 #[test]
 fn recoveries() {
-    make_calls(Entry::Recover, calls(200_000), &OF_RECOVERIES);
+    let met = make_calls(Entry::Recover, calls(200_000), &OF_RECOVERIES);
+    assert_torn(&met);
 }
 
 #[test]
@@ -516,7 +650,8 @@ fn runs() {
 #[test]
 fn page_recoveries() {
     let floors = [&OF_RECOVERIES[..], &OF_PAGE_RECOVERIES, &LENGTHS].concat();
-    make_calls(Entry::PageRecover, calls(200_000), &floors);
+    let met = make_calls(Entry::PageRecover, calls(200_000), &floors);
+    assert_torn(&met);
 }
 
 #[test]
@@ -531,7 +666,8 @@ fn page_runs() {
 fn folds() {
     let mut floors = OF_FOLDS.to_vec();
     floors.extend(BOTH.map(|(name, ..)| (name, 1)));
-    make_calls(Entry::Fold, calls(200_000), &floors);
+    let met = make_calls(Entry::Fold, calls(200_000), &floors);
+    assert_torn(&met);
 }
 
 /// The reference as an engine with an error, as one who answers folds.
@@ -555,24 +691,76 @@ impl Callee for Misfold {
     }
 }
 
-/// Recovery takes records in any order and of any value, so no list finds the first two of these.
+/// The same of recoveries.
+struct Misread(Altered<claim::Reference>);
+
+impl Callee for Misread {
+    fn answer(&self, call: &mut Call) -> u32 {
+        let answer = self.0.recover(Lent {
+            plan: call.plan.lent(),
+            sets: &words(call.sets.lent()),
+            page: call.entry.page(),
+            chip: call.chip.lend(),
+            state: call.state.lend(),
+        });
+        answer.err().unwrap_or(0)
+    }
+}
+
+/// How many of a thousand calls of the entry find the callee.
+fn found(callee: &impl Callee, entry: Entry) -> usize {
+    let differs = |seed: &u64| agree(callee, &seeded(entry, *seed).call).is_err();
+    (0..1_000).filter(differs).count()
+}
+
+fn altered(alter: Alter) -> Altered<claim::Reference> {
+    let engine = claim::Reference;
+    Altered { engine, alter }
+}
+
+/// Every chip of a list is its plan's own, so no list finds the last two of these.
+#[test]
+fn errors_of_marks_are_found_in_recoveries() {
+    for entry in [Entry::Recover, Entry::PageRecover] {
+        assert_eq!(found(&Misread(altered(Alter::Nothing)), entry), 0);
+        for alter in [
+            Alter::TakesA2,
+            Alter::TakesTornA2,
+            Alter::AsksNoOwner,
+            Alter::AsksLastOwner,
+        ] {
+            let found = found(&Misread(altered(alter)), entry);
+            println!("{alter:?}: {found} of 1000 calls of {entry:?}");
+            assert!(found >= 2, "{alter:?}: {found} of {entry:?}");
+        }
+    }
+}
+
+/// Recovery takes records in any order and of any value, so no list finds the first two of these;
+/// and every chip of a list is its plan's own, so none finds the last two.
 #[test]
 fn errors_of_folds_are_found() {
-    for alter in [
-        Alter::FoldFalling,
-        Alter::FoldZeros,
-        Alter::FoldDropsLast,
-        Alter::FoldFirstMark,
-        Alter::FoldFirstValues,
-        Alter::FoldTorn,
-        Alter::FoldEndsEarly,
+    for (alter, least) in [
+        (Alter::FoldFalling, 20),
+        (Alter::FoldZeros, 20),
+        (Alter::FoldDropsLast, 20),
+        (Alter::FoldFirstMark, 20),
+        (Alter::FoldFirstValues, 20),
+        (Alter::FoldTorn, 20),
+        (Alter::FoldEndsEarly, 20),
+        (Alter::FoldWritesA2, 20),
+        (Alter::FoldOtherSum, 20),
+        (Alter::FoldOtherLength, 20),
+        (Alter::FoldKeepsOwner, 20),
+        (Alter::FoldLosesA2, 20),
+        (Alter::FoldRefusesA2, 20),
+        (Alter::FoldRefusesTornA2, 10),
+        (Alter::FoldAsksNoOwner, 2),
+        (Alter::FoldAsksLastOwner, 2),
     ] {
-        let engine = claim::Reference;
-        let callee = Misfold(Altered { engine, alter });
-        let differs = |seed: &u64| agree(&callee, &seeded(Entry::Fold, *seed).call).is_err();
-        let found = (0..1_000).filter(differs).count();
+        let found = found(&Misfold(altered(alter)), Entry::Fold);
         println!("{alter:?}: {found} of 1000 calls");
-        assert!(found >= 20, "{alter:?}: {found}");
+        assert!(found >= least, "{alter:?}: {found}");
     }
 }
 

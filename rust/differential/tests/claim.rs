@@ -1,7 +1,8 @@
 //! Document 01's demand 3 on the library, through C, over random lists of calls for either kind of
-//! chip, over lists that go over the two days of document 02's request Q-3, and over lists with
-//! folds, of its request Q-6; and that the same lists find altered engines, so that the watch over
-//! this library is seen to be awake. `CLAIM_LISTS` sets how many lists of each kind there are.
+//! chip, over lists that go over the two days of document 02's request Q-3, over lists with folds, of
+//! its request Q-6, and over lists that the reference begins with the marks until its request Q-8 and
+//! the library folds; and that the same lists find altered engines, so that the watch over this library
+//! is seen to be awake. `CLAIM_LISTS` sets how many lists of each kind there are.
 
 use std::env;
 
@@ -13,7 +14,7 @@ use reference::journal::{BYTE_CHIP, PAGE_CHIP};
 /// The lists for the library and each kind of chip, unless `CLAIM_LISTS` says another number.
 const LISTS: u64 = 100_000;
 
-/// One list over two days, or with folds, for so many of one day and without.
+/// One list over two days, with folds, or over the change of marks, for so many of one day and without.
 const OF_ONE_DAY: u64 = 10;
 
 const KINDS: [usize; 2] = [BYTE_CHIP, PAGE_CHIP];
@@ -68,6 +69,13 @@ fn lists_with_folds_keep_the_claim() {
     }
 }
 
+#[test]
+fn lists_over_the_change_of_marks_keep_the_claim() {
+    for days in ALL_DAYS {
+        keeps_the_claim(&Library, Sort::changing_marks(days), lists() / OF_ONE_DAY);
+    }
+}
+
 fn altered(alter: Alter) -> Altered<Library> {
     Altered {
         engine: Library,
@@ -81,6 +89,7 @@ fn the_wrapper_alone_keeps_the_claim() {
         let engine = altered(Alter::Nothing);
         kinds_keep_the_claim(&engine, days, FEW);
         keeps_the_claim(&engine, Sort::folding(days), FEW);
+        keeps_the_claim(&engine, Sort::changing_marks(days), FEW);
     }
 }
 
@@ -162,6 +171,28 @@ fn alterations_of_folds_are_caught() {
     ] {
         for days in ALL_DAYS {
             caught(alter, Sort::folding(days));
+        }
+    }
+}
+
+#[test]
+fn alterations_of_marks_are_caught() {
+    for page in KINDS {
+        caught(Alter::SavesOtherSum, Sort::of(Days::Today, page));
+    }
+    for alter in [
+        Alter::TakesA2,
+        Alter::TakesTornA2,
+        Alter::FoldWritesA2,
+        Alter::FoldOtherSum,
+        Alter::FoldOtherLength,
+        Alter::FoldKeepsOwner,
+        Alter::FoldLosesA2,
+        Alter::FoldRefusesA2,
+        Alter::FoldRefusesTornA2,
+    ] {
+        for days in ALL_DAYS {
+            caught(alter, Sort::changing_marks(days));
         }
     }
 }

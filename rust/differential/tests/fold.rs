@@ -1,7 +1,7 @@
 //! The library's folding through C on chosen calls, held to the reference: on the result, on the
 //! numbers and on every byte of every buffer. Where documents 01 and 02 say the answer
-//! outright, it is stated here as well. And chips that are folded with a cut after every byte, and
-//! recovered.
+//! outright, it is stated here as well. And chips, also such as until Q-8, that are folded with a cut
+//! after every byte, and recovered.
 
 use claim::folds::found_number;
 use claim::Met;
@@ -9,20 +9,22 @@ use differential::buffer::Buffer;
 use differential::call::{agreed, sets_of, word_bytes, Call, Entry, Folded, Library, SET_WORDS};
 use differential::examples::{mean, programs, SMALL};
 use differential::folds::save_of;
-use differential::journals::{every_cell, filled, left, stored};
+use differential::journals::{every_cell, filled, left, stored_with};
 use differential::plans::refused_examples;
 use differential::rng::Rng;
-use reference::journal::{read, BYTE_CHIP, ERASED, MAX_CHIP, RECORD};
+use reference::journal::{read, Kind, BYTE_CHIP, ERASED, MAX_CHIP, RECORD};
 use reference::layout::STATE_BYTES;
+use reference::machine::State;
+use reference::Machine;
 
 /// The small plan's first two saves, with readings 5 and 7.
-const FIRST: [u8; 20] = [
-    0xA1, 0x00, 0x05, 0x00, 0x00, 0x00, 0xA2, 0x11, 0x00, 0x0F, 0x00, 0x01, 0x00, 0x00, 0x00, 0x01,
-    0x00, 0x00, 0x00, 0x5A,
+const FIRST: [u8; 24] = [
+    0xA1, 0x00, 0x05, 0x00, 0x00, 0x00, 0xA3, 0x11, 0x00, 0x0F, 0x00, 0x01, 0x00, 0x00, 0x00, 0x01,
+    0x00, 0x00, 0x00, 0x14, 0x00, 0x44, 0x00, 0x5A,
 ];
-const SECOND: [u8; 20] = [
-    0xA1, 0x00, 0x0C, 0x00, 0x00, 0x00, 0xA2, 0x11, 0x00, 0x0F, 0x00, 0x02, 0x00, 0x00, 0x00, 0x02,
-    0x00, 0x00, 0x00, 0x5A,
+const SECOND: [u8; 24] = [
+    0xA1, 0x00, 0x0C, 0x00, 0x00, 0x00, 0xA3, 0x11, 0x00, 0x0F, 0x00, 0x02, 0x00, 0x00, 0x00, 0x02,
+    0x00, 0x00, 0x00, 0x14, 0x00, 0x44, 0x00, 0x5A,
 ];
 
 /// Where a state has the write position and the bytes to erase (docs/STATE.md).
@@ -68,9 +70,9 @@ fn refused(call: &Call, number: u32) {
 
 #[test]
 fn the_first_save_folds_to_itself() {
-    for length in [20, 21, 60, MAX_CHIP] {
+    for length in [24, 25, 60, MAX_CHIP] {
         let call = small(&erased(&FIRST, 60), &erased(&[], length), 0, u64::MAX);
-        let whole = (answer(20, 1), erased(&FIRST, length));
+        let whole = (answer(24, 1), erased(&FIRST, length));
         assert_eq!(accepted(&call), whole);
     }
 }
@@ -83,11 +85,11 @@ fn of_two_saves_and_a_torn_rest_the_second_is_left() {
         [&FIRST[..], &SECOND].concat(),
         [&FIRST, &SECOND, torn].concat(),
     ] {
-        let call = small(&old, &[ERASED; 20], 0, 20);
-        assert_eq!(accepted(&call), (answer(20, 1), SECOND.to_vec()));
+        let call = small(&old, &[ERASED; 24], 0, 24);
+        assert_eq!(accepted(&call), (answer(24, 1), SECOND.to_vec()));
     }
-    let call = small(&[&FIRST[..], &SECOND[..19]].concat(), &[ERASED; 20], 0, 20);
-    assert_eq!(accepted(&call), (answer(20, 1), FIRST.to_vec()));
+    let call = small(&[&FIRST[..], &SECOND[..23]].concat(), &[ERASED; 24], 0, 24);
+    assert_eq!(accepted(&call), (answer(24, 1), FIRST.to_vec()));
 }
 
 #[test]
@@ -99,18 +101,18 @@ fn cells_that_are_not_0_by_rising_number() {
         [record(1, 300), mark.to_vec()].concat(),
     ];
     let save = [record(1, 300), record(2, -7), mark.to_vec()].concat();
-    let call = small(&old.concat(), &[ERASED; 30], 0, 100);
-    assert_eq!(accepted(&call), (answer(26, 1), erased(&save, 30)));
+    let call = small(&old.concat(), &[ERASED; 34], 0, 100);
+    assert_eq!(accepted(&call), (answer(30, 1), erased(&save, 34)));
     // All of value 0: the MARK alone.
     let old = [record(1, 0), record(0, 0), mark.to_vec()].concat();
-    let call = small(&old, &[ERASED; 14], 0, 100);
-    assert_eq!(accepted(&call), (answer(14, 1), mark.to_vec()));
+    let call = small(&old, &[ERASED; 18], 0, 100);
+    assert_eq!(accepted(&call), (answer(18, 1), mark.to_vec()));
 }
 
 #[test]
 fn without_a_whole_save_the_new_chip_stays_blank() {
-    for old in [&[][..], &[ERASED; 60], &FIRST[..19]] {
-        for length in [0, 1, 20, MAX_CHIP] {
+    for old in [&[][..], &[ERASED; 60], &FIRST[..23]] {
+        for length in [0, 1, 24, MAX_CHIP] {
             let blank = vec![ERASED; length];
             for budget in [0, 1, u64::MAX] {
                 let call = small(old, &blank, 0, budget);
@@ -126,18 +128,18 @@ fn without_a_whole_save_the_new_chip_stays_blank() {
 
 #[test]
 fn every_number_with_every_budget() {
-    for stored in 0..=20 {
-        let new = erased(&FIRST[..stored], 22);
-        for budget in 0..=22 {
-            let now = 20.min(stored + budget);
+    for stored in 0..=24 {
+        let new = erased(&FIRST[..stored], 26);
+        for budget in 0..=26 {
+            let now = 24.min(stored + budget);
             let call = small(&FIRST, &new, stored as u64, budget as u64);
-            let finished = u32::from(now == 20);
-            let left = erased(&FIRST[..now], 22);
+            let finished = u32::from(now == 24);
+            let left = erased(&FIRST[..now], 26);
             assert_eq!(accepted(&call), (answer(now as u64, finished), left));
         }
         for budget in [1 << 32, (1 << 32) + 1, u64::MAX - stored as u64, u64::MAX] {
             let call = small(&FIRST, &new, stored as u64, budget);
-            assert_eq!(accepted(&call), (answer(20, 1), erased(&FIRST, 22)));
+            assert_eq!(accepted(&call), (answer(24, 1), erased(&FIRST, 26)));
         }
     }
 }
@@ -146,11 +148,11 @@ fn every_number_with_every_budget() {
 fn where_the_save_has_ff_each_right_number_works() {
     // A1, cell 0 and the value -1: bytes 2 to 5 are FF.
     let old = [record(0, -1), FIRST[6..].to_vec()].concat();
-    let new = erased(&[RECORD, 0], 20);
+    let new = erased(&[RECORD, 0], 24);
     for stored in 0..=7 {
         let call = small(&old, &new, stored, u64::MAX);
         match stored {
-            2..=6 => assert_eq!(accepted(&call), (answer(20, 1), old.clone())),
+            2..=6 => assert_eq!(accepted(&call), (answer(24, 1), old.clone())),
             _ => refused(&call, 13),
         }
     }
@@ -161,9 +163,9 @@ fn where_the_save_has_ff_each_right_number_works() {
 
 #[test]
 fn every_byte_in_every_place_of_the_new_chip() {
-    for stored in [0, 7, 20] {
-        let new = erased(&FIRST[..stored], 22);
-        for at in 0..22 {
+    for stored in [0, 7, 24] {
+        let new = erased(&FIRST[..stored], 26);
+        for at in 0..26 {
             for byte in 0..=0xFF {
                 let mut altered = new.clone();
                 altered[at] = byte;
@@ -176,11 +178,11 @@ fn every_byte_in_every_place_of_the_new_chip() {
 
 #[test]
 fn every_number_on_every_length() {
-    for length in 0..=25 {
-        for there in 0..=length.min(20) {
+    for length in 0..=29 {
+        for there in 0..=length.min(24) {
             let new = erased(&FIRST[..there], length);
-            for stored in 0..=30 {
-                let result = match (stored == there, length >= 20) {
+            for stored in 0..=34 {
+                let result = match (stored == there, length >= 24) {
                     (false, _) => 13,
                     (true, false) => 14,
                     (true, true) => 0,
@@ -193,17 +195,17 @@ fn every_number_on_every_length() {
 
 #[test]
 fn numbers_far_beyond_the_save() {
-    let new = erased(&FIRST, 25);
+    let new = erased(&FIRST, 29);
     let far = [MAX_CHIP as u64, 1 << 32, 1 << 63, u64::MAX];
     // Of some the lower half is the right number.
-    for stored in (21..=26).chain(far).chain(far.map(|far| far | 20)) {
+    for stored in (25..=30).chain(far).chain(far.map(|far| far | 24)) {
         refused(&small(&FIRST, &new, stored, 1), 13);
     }
 }
 
 #[test]
 fn the_examples_of_the_table_of_refusals() {
-    let whole = small(&FIRST, &[ERASED; 20], 0, 1);
+    let whole = small(&FIRST, &[ERASED; 24], 0, 1);
     for (number, plan) in (1..).zip(refused_examples()) {
         let plan = Buffer::plain(&plan);
         refused(
@@ -233,12 +235,12 @@ fn the_examples_of_the_table_of_refusals() {
 fn with_grounds(grounds: &[u32]) -> Call {
     let has = |number: u32| grounds.contains(&number);
     let words = if has(9) { SET_WORDS - 1 } else { SET_WORDS };
-    let mut old = if has(12) { vec![0x00] } else { FIRST.to_vec() };
-    let mut new = if has(14) {
-        vec![ERASED; 19]
-    } else {
-        vec![ERASED; 20]
-    };
+    let mut old = FIRST.to_vec();
+    // Another sum, and behind the whole save what begins none.
+    old[21] += u8::from(has(16));
+    old.extend(has(12).then_some(0x00));
+    let length = if has(14) { 23 } else { 24 };
+    let mut new = vec![ERASED; length];
     // 11 is one chip's, or the other's where 14 needs the new one short.
     match (has(11), has(14)) {
         (true, true) => old.resize(MAX_CHIP + 1, ERASED),
@@ -256,10 +258,11 @@ fn with_grounds(grounds: &[u32]) -> Call {
 
 #[test]
 fn of_several_refusals_the_lowest_is_given() {
-    let numbers = [9, 11, 12, 13, 14];
+    // In the order in which they are tried: 16 comes after 12 and before 13.
+    let numbers = [9, 11, 12, 16, 13, 14];
     for some in 0..1 << numbers.len() {
         let is_among = |k: &usize| some >> k & 1 == 1;
-        let grounds: Vec<u32> = (0..5).filter(is_among).map(|k| numbers[k]).collect();
+        let grounds: Vec<u32> = (0..6).filter(is_among).map(|k| numbers[k]).collect();
         let call = with_grounds(&grounds);
         refused(&call, grounds.first().copied().unwrap_or(0));
         for (number, plan) in (1..).zip(refused_examples()) {
@@ -280,9 +283,9 @@ fn of_the_sets_only_the_length_is_asked() {
     let mut rng = Rng::new(0xF01D_0000_0000_0001);
     for more in 0..17 {
         let sets = Buffer::new(8 * SET_WORDS + more, 0, || rng.byte());
-        let call = small(&FIRST, &[ERASED; 20], 0, 20);
+        let call = small(&FIRST, &[ERASED; 24], 0, 24);
         let folded = accepted(&Call { sets, ..call });
-        assert_eq!(folded, (answer(20, 1), FIRST.to_vec()));
+        assert_eq!(folded, (answer(24, 1), FIRST.to_vec()));
     }
 }
 
@@ -331,9 +334,12 @@ fn null_pointers() {
 fn full_chips_and_the_longest_save() {
     let mut rng = Rng::new(0xF01D_0000_0000_0002);
     let plan = [0xFF, 0x0D, 0x0E, 0x01];
-    let every = every_cell(&mut rng, &plan);
-    assert_eq!(save_of(&plan, &every).len(), 6 * 256 + 14);
-    for old in [every, filled(&mut rng, &plan, MAX_CHIP, BYTE_CHIP)] {
+    let [every_a2, every] = Kind::ALL.map(|kind| every_cell(&mut rng, &plan, kind));
+    for every in [&every_a2, &every] {
+        assert_eq!(save_of(&plan, every).len(), 6 * 256 + 18);
+    }
+    let full = filled(&mut rng, &plan, MAX_CHIP, BYTE_CHIP);
+    for old in [every_a2, every, full] {
         let save = save_of(&plan, &old);
         for length in [save.len(), MAX_CHIP] {
             let call = Call {
@@ -401,16 +407,33 @@ fn cut_everywhere(plan: &[u8], sets: &[u64], old: &[u8], length: usize, met: &mu
         met.count("cuts");
         met.add("cuts with FF as the last byte", u64::from(found < bytes));
     }
-    let (state, _) = recovered(plan, sets, old);
     let folded = recovered(plan, sets, finished);
-    assert_eq!(folded, (state, [save.len() as u32, 0]));
+    assert_eq!(folded, (old_state(plan, sets, old), [save.len() as u32, 0]));
+}
+
+/// The state that the old chip gives without write position and bytes to erase: one with A2 marks gave it until request
+/// Q-8, as the reference of that day says, since the library refuses it.
+#[track_caller]
+fn old_state(plan: &[u8], sets: &[u64], old: &[u8]) -> Vec<u8> {
+    let call = Call::recover(plan, sets, old, &[0xA5; STATE_BYTES]);
+    if agreed(&Library, &call).0 == 0 {
+        return recovered(plan, sets, old).0;
+    }
+    let mut state = State::first();
+    let machine = Machine::of_kind(plan, sets, BYTE_CHIP, Kind::A2);
+    let recovered = machine.and_then(|machine| machine.recover(old, &mut state));
+    recovered.expect("the chip was accepted until Q-8");
+    (state.write, state.erase) = (0, 0);
+    state.to_bytes().to_vec()
 }
 
 /// Counts what an old chip holds.
 fn count_old(met: &mut Met, plan: &[u8], old: &[u8]) {
     let held = read(plan, old, BYTE_CHIP).expect("a list leaves no damaged chip");
     met.count("chips");
+    let is_a2 = held.saves.iter().any(|save| save.mark.kind() == Kind::A2);
     let named = [
+        ("chips with A2 marks", is_a2),
         ("chips without a whole save", held.saves.is_empty()),
         ("chips of several saves", held.saves.len() > 1),
         ("chips with torn bytes", held.torn > 0),
@@ -422,7 +445,8 @@ fn count_old(met: &mut Met, plan: &[u8], old: &[u8]) {
 }
 
 /// What a thousand chips must meet at least.
-const FLOORS: [(&str, u64); 6] = [
+const FLOORS: [(&str, u64); 7] = [
+    ("chips with A2 marks", 200),
     ("chips without a whole save", 20),
     ("chips of several saves", 100),
     ("chips with torn bytes", 100),
@@ -445,10 +469,11 @@ fn chips_are_cut_after_every_byte() {
             _ => [&sieve, &contour][rng.below(2)].clone(),
         };
         let sets = sets_of(&plan);
+        let kind = rng.pick(&Kind::ALL);
         let old = match (number % 4, rng.below(2)) {
             // A random plan may have no CHECKPOINT, and so no save made by hand.
-            (1, _) | (_, 0) => left(&mut rng, &plan, &sets),
-            _ => stored(&mut rng, &plan, BYTE_CHIP),
+            (1, _) | (_, 0) => left(&mut rng, &plan, &sets, kind),
+            _ => stored_with(&mut rng, &plan, BYTE_CHIP, kind),
         };
         count_old(&mut met, &plan, &old);
         let length = save_of(&plan, &old).len() + rng.pick(&[0, 0, 1, 50]);

@@ -166,18 +166,32 @@ static void refuse(void)
 /* What a page chip alone is refused for. */
 static void refuse_pages(void)
 {
-    static const uint8_t mark[] = {0xA2, 17, 0, 15, 0, 1, 0, 0, 0, 1, 0, 0, 0, 0x5A};
-    uint8_t chip[PITSKELO_PAGE_SIZE + 1];
+    static const uint8_t mark[] = {0xA3, 17, 0, 15, 0, 1, 0, 0, 0, 1, 0, 0, 0, 20, 0, 68, 0, 0x5A};
+    uint8_t chip[2 * PITSKELO_PAGE_SIZE + 1];
 
     memset(chip, 0xFF, sizeof chip);
     memcpy(chip, mark, sizeof mark);
     print_recover("part of a page", sizeof sets, chip, sizeof chip, sizeof state);
-    print_recover("one save", sizeof sets, chip, PITSKELO_PAGE_SIZE, sizeof state);
+    print_recover("one save", sizeof sets, chip, 2 * PITSKELO_PAGE_SIZE, sizeof state);
     print_run("part of a page", chip, sizeof chip, NULL, 0, 16, 1);
     state[PITSKELO_STATE_WRITE] = 1;
-    print_run("within a page", chip, PITSKELO_PAGE_SIZE, NULL, 0, 16, 1);
+    print_run("within a page", chip, 2 * PITSKELO_PAGE_SIZE, NULL, 0, 16, 1);
     chip[sizeof mark] = 0;
-    print_recover("filled with 00", sizeof sets, chip, PITSKELO_PAGE_SIZE, sizeof state);
+    print_recover("filled with 00", sizeof sets, chip, 2 * PITSKELO_PAGE_SIZE, sizeof state);
+}
+
+/* An A2 mark, as until request Q-8, and a mark of another sum, on either kind of chip. */
+static void refuse_marks(void)
+{
+    static const uint8_t old_mark[] = {0xA2, 17, 0, 15, 0, 1, 0, 0, 0, 1, 0, 0, 0, 0x5A};
+    static const uint8_t other[] = {0xA3, 17, 0, 15, 0, 1, 0, 0, 0, 1, 0, 0, 0, 20, 0, 69, 0, 0x5A};
+    uint8_t chip[2 * PITSKELO_PAGE_SIZE];
+
+    memset(chip, 0xFF, sizeof chip);
+    memcpy(chip, old_mark, sizeof old_mark);
+    print_recover("an old mark", sizeof sets, chip, sizeof chip, sizeof state);
+    memcpy(chip, other, sizeof other);
+    print_recover("another plan's mark", sizeof sets, chip, sizeof chip, sizeof state);
 }
 
 /* Prints the result, the two numbers, and the new chip up to where FF begins. */
@@ -201,10 +215,11 @@ static void print_fold(const char *name, size_t sets_len, const uint8_t *old_chi
 static void fold_chip(void)
 {
     static const uint8_t old_chip[] = {
-        0xA1, 0, 5, 0, 0, 0, 0xA2, 17, 0, 15, 0, 1, 0, 0, 0, 1, 0, 0, 0, 0x5A, 0xA1, 1,
+        0xA1, 0, 5, 0, 0, 0, 0xA3, 17, 0, 15, 0, 1, 0, 0, 0, 1, 0, 0, 0, 20, 0, 68, 0, 0x5A, 0xA1, 1,
     };
+    static const uint8_t other[] = {0xA3, 17, 0, 15, 0, 1, 0, 0, 0, 1, 0, 0, 0, 20, 0, 69, 0, 0x5A};
     static uint8_t long_chip[PITSKELO_CHIP_MAX + 1];
-    uint8_t new_chip[24];
+    uint8_t new_chip[28];
     size_t old_len = sizeof old_chip, new_len = sizeof new_chip;
 
     memset(new_chip, 0xFF, sizeof new_chip);
@@ -215,12 +230,27 @@ static void fold_chip(void)
     print_fold("short sets", sizeof sets - 1, old_chip, old_len, new_chip, new_len, 7, 1000);
     print_fold("long chip", sizeof sets, long_chip, sizeof long_chip, new_chip, new_len, 7, 1000);
     print_fold("damaged", sizeof sets, old_chip + 1, old_len - 1, new_chip, new_len, 7, 1000);
+    print_fold("other plan", sizeof sets, other, sizeof other, new_chip, new_len, 8, 1000);
     print_fold("other number", sizeof sets, old_chip, old_len, new_chip, new_len, 8, 1000);
-    print_fold("short chip", sizeof sets, old_chip, old_len, new_chip, 19, 7, 1000);
+    print_fold("short chip", sizeof sets, old_chip, old_len, new_chip, 23, 7, 1000);
     print_fold("the rest", sizeof sets, old_chip, old_len, new_chip, new_len, 7, 1000);
-    print_fold("again", sizeof sets, old_chip, old_len, new_chip, new_len, 20, 0);
+    print_fold("again", sizeof sets, old_chip, old_len, new_chip, new_len, 24, 0);
     print_recover("old", sizeof sets, old_chip, old_len, sizeof state);
     print_recover("new", sizeof sets, new_chip, new_len, sizeof state);
+}
+
+/* Folds a chip with an A2 mark, which is refused before, and recovers from the new one. */
+static void fold_old_marks(void)
+{
+    static const uint8_t old_chip[] = {
+        0xA1, 0, 5, 0, 0, 0, 0xA2, 17, 0, 15, 0, 1, 0, 0, 0, 1, 0, 0, 0, 0x5A,
+    };
+    uint8_t new_chip[24];
+
+    memset(new_chip, 0xFF, sizeof new_chip);
+    print_recover("A2", sizeof sets, old_chip, sizeof old_chip, sizeof state);
+    print_fold("A2", sizeof sets, old_chip, sizeof old_chip, new_chip, sizeof new_chip, 0, 1000);
+    print_recover("A3", sizeof sets, new_chip, sizeof new_chip, sizeof state);
 }
 
 int main(void)
@@ -235,12 +265,15 @@ int main(void)
     print_analyse("null", plan, plan_len, 0, 0);
     print_analyse("input", plan, plan_len, PITSKELO_DEAD_SIZE, PITSKELO_SETS_SIZE);
     kind = &byte_chip;
-    recover_and_run(20, 20, 33);
+    recover_and_run(24, 24, 33);
     refuse();
+    refuse_marks();
     fold_chip();
+    fold_old_marks();
     kind = &page_chip;
     recover_and_run(32, 2, 48);
     refuse();
     refuse_pages();
+    refuse_marks();
     return 0;
 }

@@ -29,12 +29,12 @@ const PRINTED: &str = "check input: 0, 3 7 1\n\
      analyse input: 0, 07 06 04 06 06 06 06 A5, 06 04 5A\n\
      recover erased: 0, 0, 1 0 0 0 0 0 0 0\n\
      run no room: 0, 6 3 1 0,\n\
-     run some steps: 0, 4 24 0 1, 5\n\
+     run some steps: 0, 4 28 0 1, 5\n\
      run no readings: 0, 5 0 0 0,\n\
-     run the rest: 0, 5 52 2 2, 12 10\n\
-     recover whole: 0, 10, 17 15 3 3 0 60 0 0\n\
-     A1 00 05 00 00 00 A2 11 00 0F 00 01 00 00 00 01 00 00 00 5A\n\
-     recover cut: 0, 5, 17 15 1 1 0 20 13 0\n\
+     run the rest: 0, 5 60 2 2, 12 10\n\
+     recover whole: 0, 10, 17 15 3 3 0 72 0 0\n\
+     A1 00 05 00 00 00 A3 11 00 0F 00 01 00 00 00 01 00 00 00 14 00 44 00 5A\n\
+     recover cut: 0, 5, 17 15 1 1 0 24 9 0\n\
      recover short sets: 9\n\
      recover short state: 10\n\
      recover long chip: 11\n\
@@ -43,26 +43,35 @@ const PRINTED: &str = "check input: 0, 3 7 1\n\
      recover null: 0, 0, 1 0 0 0 0 0 0 0\n\
      run long chip: 11, 1001 1002 1003 1004,\n\
      run past the end: 10, 1001 1002 1003 1004,\n\
+     recover an old mark: 15\n\
+     recover another plan's mark: 16\n\
      fold no save: 0, 0 1,\n\
      fold no budget: 0, 0 0,\n\
-     fold some bytes: 0, 7 0, A1 00 05 00 00 00 A2\n\
-     fold short sets: 9, 1001 1002, A1 00 05 00 00 00 A2\n\
-     fold long chip: 11, 1001 1002, A1 00 05 00 00 00 A2\n\
-     fold damaged: 12, 1001 1002, A1 00 05 00 00 00 A2\n\
-     fold other number: 13, 1001 1002, A1 00 05 00 00 00 A2\n\
-     fold short chip: 14, 1001 1002, A1 00 05 00 00 00 A2\n\
-     fold the rest: 0, 20 1, A1 00 05 00 00 00 A2 11 00 0F 00 01 00 00 00 01 00 00 00 5A\n\
-     fold again: 0, 20 1, A1 00 05 00 00 00 A2 11 00 0F 00 01 00 00 00 01 00 00 00 5A\n\
-     recover old: 0, 5, 17 15 1 1 0 20 2 0\n\
-     recover new: 0, 5, 17 15 1 1 0 20 0 0\n\
+     fold some bytes: 0, 7 0, A1 00 05 00 00 00 A3\n\
+     fold short sets: 9, 1001 1002, A1 00 05 00 00 00 A3\n\
+     fold long chip: 11, 1001 1002, A1 00 05 00 00 00 A3\n\
+     fold damaged: 12, 1001 1002, A1 00 05 00 00 00 A3\n\
+     fold other plan: 16, 1001 1002, A1 00 05 00 00 00 A3\n\
+     fold other number: 13, 1001 1002, A1 00 05 00 00 00 A3\n\
+     fold short chip: 14, 1001 1002, A1 00 05 00 00 00 A3\n\
+     fold the rest: 0, 24 1, \
+     A1 00 05 00 00 00 A3 11 00 0F 00 01 00 00 00 01 00 00 00 14 00 44 00 5A\n\
+     fold again: 0, 24 1, \
+     A1 00 05 00 00 00 A3 11 00 0F 00 01 00 00 00 01 00 00 00 14 00 44 00 5A\n\
+     recover old: 0, 5, 17 15 1 1 0 24 2 0\n\
+     recover new: 0, 5, 17 15 1 1 0 24 0 0\n\
+     recover A2: 15\n\
+     fold A2: 0, 24 1, \
+     A1 00 05 00 00 00 A3 11 00 0F 00 01 00 00 00 01 00 00 00 14 00 44 00 5A\n\
+     recover A3: 0, 5, 17 15 1 1 0 24 0 0\n\
      page recover erased: 0, 0, 1 0 0 0 0 0 0 0\n\
      page run no room: 0, 6 3 1 0,\n\
      page run some steps: 0, 4 6 0 1, 5\n\
      page run no readings: 0, 5 0 0 0,\n\
      page run the rest: 0, 5 16 2 2, 12 10\n\
      page recover whole: 0, 10, 17 15 3 3 0 96 0 0\n\
-     A1 00 05 00 00 00 A2 11 00 0F 00 01 00 00 00 01 00 00 00 5A \
-     FF FF FF FF FF FF FF FF FF FF FF FF\n\
+     A1 00 05 00 00 00 A3 11 00 0F 00 01 00 00 00 01 00 00 00 14 00 44 00 5A \
+     FF FF FF FF FF FF FF FF\n\
      page recover cut: 0, 5, 17 15 1 1 0 32 16 0\n\
      page recover short sets: 9\n\
      page recover short state: 10\n\
@@ -73,10 +82,12 @@ const PRINTED: &str = "check input: 0, 3 7 1\n\
      page run long chip: 11, 1001 1002 1003 1004,\n\
      page run past the end: 10, 1001 1002 1003 1004,\n\
      page recover part of a page: 11\n\
-     page recover one save: 0, 0, 17 15 1 1 0 16 0 0\n\
+     page recover one save: 0, 0, 17 15 1 1 0 32 0 0\n\
      page run part of a page: 11, 1001 1002 1003 1004,\n\
      page run within a page: 10, 1001 1002 1003 1004,\n\
-     page recover filled with 00: 12\n";
+     page recover filled with 00: 12\n\
+     page recover an old mark: 15\n\
+     page recover another plan's mark: 16\n";
 
 #[test]
 fn a_c_program_runs_the_small_plan() {

@@ -7,24 +7,24 @@ use differential::call::{
 };
 use differential::examples::SMALL;
 use differential::plans::refused_examples;
-use reference::journal::{ERASED, MARK, MARK_END, MAX_CHIP, RECORD};
+use reference::journal::{ERASED, MARK_A3, MARK_END, MAX_CHIP, RECORD};
 use reference::layout::STATE_BYTES;
 use reference::machine::{Mark, State, Stop};
 
 const READINGS: [i32; 3] = [5, 7, -2];
 
 /// The small plan's first two saves, with readings 5 and 7.
-const FIRST: [u8; 20] = [
-    0xA1, 0x00, 0x05, 0x00, 0x00, 0x00, 0xA2, 0x11, 0x00, 0x0F, 0x00, 0x01, 0x00, 0x00, 0x00, 0x01,
-    0x00, 0x00, 0x00, 0x5A,
+const FIRST: [u8; 24] = [
+    0xA1, 0x00, 0x05, 0x00, 0x00, 0x00, 0xA3, 0x11, 0x00, 0x0F, 0x00, 0x01, 0x00, 0x00, 0x00, 0x01,
+    0x00, 0x00, 0x00, 0x14, 0x00, 0x44, 0x00, 0x5A,
 ];
-const SECOND: [u8; 20] = [
-    0xA1, 0x00, 0x0C, 0x00, 0x00, 0x00, 0xA2, 0x11, 0x00, 0x0F, 0x00, 0x02, 0x00, 0x00, 0x00, 0x02,
-    0x00, 0x00, 0x00, 0x5A,
+const SECOND: [u8; 24] = [
+    0xA1, 0x00, 0x0C, 0x00, 0x00, 0x00, 0xA3, 0x11, 0x00, 0x0F, 0x00, 0x02, 0x00, 0x00, 0x00, 0x02,
+    0x00, 0x00, 0x00, 0x14, 0x00, 0x44, 0x00, 0x5A,
 ];
 
-/// A plan of three cells that saves all of them twice, 32 bytes each: CHECKPOINT, CHECKPOINT, END.
-const WHOLE_PAGES: [u8; 4] = [0x02, 0x0E, 0x0E, 0x01];
+/// A plan of five cells that saves all of them twice, 48 bytes each: CHECKPOINT, CHECKPOINT, END.
+const WHOLE_PAGES: [u8; 4] = [0x04, 0x0E, 0x0E, 0x01];
 
 #[track_caller]
 fn accepted(call: &Call) -> Call {
@@ -86,7 +86,7 @@ fn two_pages_hold_the_first_save_and_one_none() {
         assert_eq!(left.chip.lent(), &chip[..length]);
     }
     refused(&run_on(31), 11);
-    refused(&run_on(20), 11);
+    refused(&run_on(24), 11);
 }
 
 #[test]
@@ -109,19 +109,19 @@ fn a_step_stores_a_page() {
 
 #[test]
 fn a_save_that_ends_a_page_has_no_filling() {
-    let mut call = run_on(64);
+    let mut call = run_on(96);
     call.plan = Buffer::plain(&WHOLE_PAGES);
     let left = accepted(&call);
-    // Two CHECKPOINTs with two pages each, and END.
-    assert_eq!((left.ran().ended, left.ran().steps), (1, 2 * (1 + 2) + 1));
-    assert_eq!(left.chip.lent()[31], MARK_END);
-    assert_eq!(left.chip.lent()[32..34], [RECORD, 0]);
+    // Two CHECKPOINTs with three pages each, and END.
+    assert_eq!((left.ran().ended, left.ran().steps), (1, 2 * (1 + 3) + 1));
+    assert_eq!(left.chip.lent()[47], MARK_END);
+    assert_eq!(left.chip.lent()[48..50], [RECORD, 0]);
     let again = Call {
         plan: Buffer::plain(&WHOLE_PAGES),
         ..recovery(left.chip.lent())
     };
     let state = state_of(&accepted(&again));
-    assert_eq!((state.write, state.erase, state.place), (64, 0, 3));
+    assert_eq!((state.write, state.erase, state.place), (96, 0, 3));
 }
 
 #[test]
@@ -140,7 +140,7 @@ fn cut_between_its_two_pages_the_first_save_is_torn() {
 
 #[test]
 fn a_torn_page_counts_whole_wherever_the_remainder_ends() {
-    for bytes in 1..20 {
+    for bytes in 1..24 {
         let torn = if bytes <= 16 { 16 } else { 32 };
         let first = state_of(&accepted(&recovery(&pages(&[&FIRST[..bytes]]))));
         assert_eq!((first.write, first.erase, first.place), (0, torn, 1));
@@ -173,10 +173,10 @@ fn torn_pages_are_erased_the_highest_first() {
 #[test]
 fn every_byte_in_every_place_of_the_filling() {
     for (chip, filling) in [
-        (pages(&[&FIRST]), 20..32),
-        (pages(&[&FIRST, &SECOND]), 20..32),
-        (pages(&[&FIRST, &SECOND]), 52..64),
-        (pages(&[&FIRST, &SECOND])[..64].to_vec(), 52..64),
+        (pages(&[&FIRST]), 24..32),
+        (pages(&[&FIRST, &SECOND]), 24..32),
+        (pages(&[&FIRST, &SECOND]), 56..64),
+        (pages(&[&FIRST, &SECOND])[..64].to_vec(), 56..64),
     ] {
         for at in filling {
             for byte in 0..=0xFF {
@@ -239,7 +239,7 @@ fn ten_comes_before_eleven() {
 
 #[test]
 fn the_remaining_bytes_fit_with_their_filling() {
-    // A save of cells 0 and 2 at the small plan's CHECKPOINT: 26 bytes, and 6 of filling.
+    // A save of cells 0 and 2 at the small plan's CHECKPOINT: 30 bytes, and 2 of filling.
     for length in 0..=70 {
         for (write, stored) in [(0, 0), (16, 0), (16, 16), (32, 16)] {
             let mut state = State::first();
@@ -267,8 +267,8 @@ fn what_a_state_counts_it_counts_in_pages() {
         let result = if bytes % 16 == 0 { 0 } else { 10 };
         refused(&with(|state, bytes| state.write = bytes), result);
         refused(&with(|state, bytes| state.erase = bytes), result);
-        // Before the first EXCLUDE a save has 32 bytes.
-        let result = if bytes < 32 { result } else { 10 };
+        // Before the first EXCLUDE a save has 36 bytes, so three pages.
+        let result = if bytes < 48 { result } else { 10 };
         let saving = with(|state, bytes| (state.place, state.saving) = (16, Some(bytes)));
         refused(&saving, result);
     }
@@ -289,14 +289,14 @@ fn a_chip_of_the_other_kind() {
         entry: Entry::Recover,
         ..recovery(chip)
     };
-    assert_eq!(state_of(&accepted(&of_bytes(&bytes))).write, 40);
+    assert_eq!(state_of(&accepted(&of_bytes(&bytes))).write, 48);
     // As a page chip has them, FF stands where the byte chip's second save would begin.
     refused(&of_bytes(&pages(&[&FIRST, &SECOND])), 12);
     // One save alone reads both ways, and so does a torn one.
     let one = pages(&[&FIRST]);
-    assert_eq!(state_of(&accepted(&of_bytes(&one))).write, 20);
+    assert_eq!(state_of(&accepted(&of_bytes(&one))).write, 24);
     assert_eq!(state_of(&accepted(&recovery(&one))).write, 32);
-    let torn = [&[MARK, 0x11], &[ERASED; 14][..]].concat();
+    let torn = [&[MARK_A3, 0x11], &[ERASED; 14][..]].concat();
     assert_eq!(state_of(&accepted(&of_bytes(&torn))).erase, 2);
     assert_eq!(state_of(&accepted(&recovery(&torn))).erase, 16);
 }
@@ -308,7 +308,7 @@ fn a_state_of_the_other_kind() {
         entry: Entry::Recover,
         ..recovery(&chip)
     };
-    // The write position is 20, in a page.
+    // The write position is 24, in a page.
     let state = state_of(&accepted(&of_bytes));
     refused(&run_from(&state, &chip), 10);
     // What a page chip's calls count in pages is sound for a byte chip.

@@ -7,15 +7,15 @@ use differential::examples::SMALL;
 use differential::journals::{self, altered, filled, plans};
 use differential::plans::refused_examples;
 use differential::rng::Rng;
-use reference::journal::{read, BYTE_CHIP, ERASED, MARK, MARK_END, MAX_CHIP, RECORD};
+use reference::journal::{read, BYTE_CHIP, ERASED, MARK_A2, MARK_A3, MARK_END, MAX_CHIP, RECORD};
 use reference::layout::STATE_BYTES;
 use reference::machine::{Mark, State};
 
 /// The small plan's first two saves, with readings 5 and 7.
-const SAVES: [u8; 40] = [
-    0xA1, 0x00, 0x05, 0x00, 0x00, 0x00, 0xA2, 0x11, 0x00, 0x0F, 0x00, 0x01, 0x00, 0x00, 0x00, 0x01,
-    0x00, 0x00, 0x00, 0x5A, 0xA1, 0x00, 0x0C, 0x00, 0x00, 0x00, 0xA2, 0x11, 0x00, 0x0F, 0x00, 0x02,
-    0x00, 0x00, 0x00, 0x02, 0x00, 0x00, 0x00, 0x5A,
+const SAVES: [u8; 48] = [
+    0xA1, 0x00, 0x05, 0x00, 0x00, 0x00, 0xA3, 0x11, 0x00, 0x0F, 0x00, 0x01, 0x00, 0x00, 0x00, 0x01,
+    0x00, 0x00, 0x00, 0x14, 0x00, 0x44, 0x00, 0x5A, 0xA1, 0x00, 0x0C, 0x00, 0x00, 0x00, 0xA3, 0x11,
+    0x00, 0x0F, 0x00, 0x02, 0x00, 0x00, 0x00, 0x02, 0x00, 0x00, 0x00, 0x14, 0x00, 0x44, 0x00, 0x5A,
 ];
 
 /// The state that an accepted call leaves.
@@ -55,7 +55,7 @@ fn cut_after_33_bytes_cell_0_is_5_and_both_counts_are_1() {
     let state = recovered(&small(&stored(33)));
     assert_eq!((state.cells[0], state.readings, state.outputs), (5, 1, 1));
     assert_eq!((state.place, state.exclude), (17, 15));
-    assert_eq!((state.write, state.erase), (20, 13));
+    assert_eq!((state.write, state.erase), (24, 9));
     assert_eq!(
         state.marks[..4],
         [Mark::Include, Mark::Dead, Mark::Dead, Mark::Include]
@@ -66,32 +66,38 @@ fn cut_after_33_bytes_cell_0_is_5_and_both_counts_are_1() {
 fn a_save_counts_from_its_last_byte_on() {
     for bytes in 0..=SAVES.len() {
         let state = recovered(&small(&stored(bytes)));
-        let whole = bytes / 20;
+        let whole = bytes / 24;
         assert_eq!(state.cells[0], [0, 5, 12][whole]);
-        assert_eq!(state.write as usize, 20 * whole);
-        assert_eq!(state.erase as usize, bytes - 20 * whole);
+        assert_eq!(state.write as usize, 24 * whole);
+        assert_eq!(state.erase as usize, bytes - 24 * whole);
     }
 }
 
 /// How many of the 256 bytes recovery accepts in each place of the two saves. A cell is one of three, a value any, an
-/// EXCLUDE the plan's or none. A count of the first mark is at most 2, one of the second at least 1. FF in place of the
-/// last 5A leaves a torn save.
-const ACCEPTED: [usize; 40] = [
-    1, 3, 256, 256, 256, 256, 1, 1, 1, 2, 1, 3, 1, 1, 1, 3, 1, 1, 1, 1, //
-    1, 3, 256, 256, 256, 256, 1, 1, 1, 2, 1, 255, 256, 256, 256, 255, 256, 256, 256, 2,
+/// EXCLUDE the plan's or none. A count of the first mark is at most 2, one of the second at least 1. Of what names the
+/// plan each other byte gives 16. FF in place of the last 5A leaves a torn save. All others give 12.
+const ACCEPTED: [usize; 48] = [
+    1, 3, 256, 256, 256, 256, 1, 1, 1, 2, 1, 3, 1, 1, 1, 3, 1, 1, 1, 1, 1, 1, 1, 1, //
+    1, 3, 256, 256, 256, 256, 1, 1, 1, 2, 1, 255, 256, 256, 256, 255, 256, 256, 256, 1, 1, 1, 1, 2,
 ];
 
 #[test]
 fn every_byte_in_every_place_of_two_saves() {
     for (at, accepted) in ACCEPTED.into_iter().enumerate() {
         let result = |byte: u8| {
-            let mut chip = stored(40);
+            let mut chip = stored(48);
             chip[at] = byte;
             agreed(&Library, &small(&chip)).0
         };
         let results: Vec<u32> = (0..=255).map(result).collect();
         let count = |number: u32| results.iter().filter(|found| **found == number).count();
-        assert_eq!((count(0), count(12)), (accepted, 256 - accepted), "at {at}");
+        let names_plan = matches!(at % 24, 19..23);
+        let other = if names_plan { 16 } else { 12 };
+        assert_eq!(
+            (count(0), count(other)),
+            (accepted, 256 - accepted),
+            "at {at}"
+        );
     }
 }
 
@@ -165,7 +171,7 @@ fn of_a_state_only_the_length_is_tested() {
 
 #[test]
 fn bits_of_missing_cells_count_as_0_and_later_words_as_nothing() {
-    let expected = recovered(&small(&stored(40)));
+    let expected = recovered(&small(&stored(48)));
     let mut words = sets_of(SMALL);
     for word in words.iter_mut().take(8) {
         *word |= !0b111;
@@ -177,7 +183,7 @@ fn bits_of_missing_cells_count_as_0_and_later_words_as_nothing() {
         bytes.resize(bytes.len() + rest, 0x11);
         let call = Call {
             sets: Buffer::plain(&bytes),
-            ..small(&stored(40))
+            ..small(&stored(48))
         };
         assert_eq!(recovered(&call), expected);
     }
@@ -191,7 +197,12 @@ fn marks_by_the_last_exclude_alone() {
     words[..4].fill(u64::MAX);
     // By the second: cell 0 in neither, 1 in RO, 2 in DE, 3 in both.
     (words[8], words[12]) = (0b1100, 0b1010);
-    let save = |exclude: u8| [0xA2, 0x05, 0, exclude, 0, 0, 0, 0, 0, 0, 0, 0, 0, 0x5A];
+    // The plan has 6 bytes, and their sum is 58.
+    let save = |exclude: u8| {
+        [
+            0xA3, 0x05, 0, exclude, 0, 0, 0, 0, 0, 0, 0, 0, 0, 6, 0, 58, 0, 0x5A,
+        ]
+    };
     let marks = |chip: &[u8]| {
         let call = Call::recover(&plan, &words, chip, &[0xA5; STATE_BYTES]);
         recovered(&call).marks[..5].to_vec()
@@ -272,7 +283,9 @@ fn altered_chips() {
 fn chips_of_bytes_that_mean_something() {
     let mut rng = Rng::new(0xC41B_0000_0000_0003);
     let calls = of_plans();
-    let some = [RECORD, MARK, MARK_END, 0x00, 0x01, 0x02, 0x03, ERASED];
+    let some = [
+        RECORD, MARK_A2, MARK_A3, MARK_END, 0x00, 0x01, 0x02, 0x03, ERASED,
+    ];
     for _ in 0..20_000 {
         let call = &calls[rng.below(calls.len())];
         let length = rng.below(40);
@@ -285,7 +298,7 @@ fn chips_of_bytes_that_mean_something() {
 
 #[test]
 fn every_beginning_of_three_bytes() {
-    // With one whole save before them: all pairs of bytes after A1, and after A2.
+    // With one whole save before them: all pairs of bytes after A1, after A2, and after A3.
     let mut rng = Rng::new(0xC41B_0000_0000_0004);
     for call in of_plans() {
         let plan = call.plan.lent();
@@ -296,7 +309,7 @@ fn every_beginning_of_three_bytes() {
                 break chip[..held.end].to_vec();
             }
         };
-        for tag in [RECORD, MARK] {
+        for tag in [RECORD, MARK_A2, MARK_A3] {
             for pair in 0..=u16::MAX {
                 let [low, high] = pair.to_le_bytes();
                 let chip = [&before[..], &[tag, low, high]].concat();

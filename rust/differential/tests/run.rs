@@ -16,8 +16,8 @@ use reference::machine::{Mark, State, Stop};
 
 const READINGS: [i32; 3] = [5, 7, -2];
 
-/// SET, then for each reading four commands, a CHECKPOINT with its 20 bytes, and JUMP.
-const STEPS: u64 = 1 + 3 * (4 + 1 + 20 + 1);
+/// SET, then for each reading four commands, a CHECKPOINT with its 24 bytes, and JUMP.
+const STEPS: u64 = 1 + 3 * (4 + 1 + 24 + 1);
 
 // READ, EMIT and JUMP of streams over cell 0.
 const READ: &[u8] = &[0x07, 0x00];
@@ -62,7 +62,7 @@ fn state_of(call: &Call) -> State {
 
 #[test]
 fn the_small_plan() {
-    let left = accepted(&small(60));
+    let left = accepted(&small(72));
     let ran = Ran {
         ended: 5,
         steps: STEPS,
@@ -72,12 +72,12 @@ fn the_small_plan() {
     assert_eq!(left.ran(), ran);
     assert_eq!(numbers(left.outputs.lent()), [5, 12, 10, -77, -77]);
     let first_save = [
-        0xA1, 0x00, 0x05, 0x00, 0x00, 0x00, 0xA2, 0x11, 0x00, 0x0F, 0x00, 0x01, 0x00, 0x00, 0x00,
-        0x01, 0x00, 0x00, 0x00, 0x5A,
+        0xA1, 0x00, 0x05, 0x00, 0x00, 0x00, 0xA3, 0x11, 0x00, 0x0F, 0x00, 0x01, 0x00, 0x00, 0x00,
+        0x01, 0x00, 0x00, 0x00, 0x14, 0x00, 0x44, 0x00, 0x5A,
     ];
-    assert_eq!(left.chip.lent()[..20], first_save);
-    assert_eq!(accepted(&small(20)).chip.lent(), first_save);
-    assert_eq!(accepted(&small(19)).chip.lent(), [ERASED; 19]);
+    assert_eq!(left.chip.lent()[..24], first_save);
+    assert_eq!(accepted(&small(24)).chip.lent(), first_save);
+    assert_eq!(accepted(&small(23)).chip.lent(), [ERASED; 23]);
 }
 
 #[test]
@@ -218,13 +218,13 @@ fn each_sum_at_the_end_of_the_chip() {
 
 #[test]
 fn each_place_in_a_save() {
-    // The small plan's save before its first EXCLUDE: three records and the mark, 32 bytes, on a chip of 40.
-    for stored in 0..=33 {
-        for write in 0..=41 {
+    // The small plan's save before its first EXCLUDE: three records and the mark, 36 bytes, on a chip of 44.
+    for stored in 0..=37 {
+        for write in 0..=45 {
             let mut state = State::first();
             (state.place, state.write, state.saving) = (16, write, Some(stored));
-            let call = run_from(&state, SMALL, 40, &[], 0);
-            let fits = stored < 32 && write + 32 - stored <= 40;
+            let call = run_from(&state, SMALL, 44, &[], 0);
+            let fits = stored < 36 && write + 36 - stored <= 44;
             refused(&call, if fits { 0 } else { 10 });
         }
     }
@@ -352,7 +352,7 @@ fn a_rest_too_short_for_a_number_is_left_unused() {
 
 #[test]
 fn buffers_at_any_address() {
-    let call = small(60);
+    let call = small(72);
     for shift in 0..8 {
         // No two buffers have the same shift.
         let at = |buffer: &Buffer, more: usize| buffer.shifted((shift + more) % 8);
@@ -401,7 +401,7 @@ fn budgets_of_every_size() {
     for budget in 0..=STEPS + 20 {
         let ran = accepted(&Call {
             budget,
-            ..small(60)
+            ..small(72)
         })
         .ran();
         let ended = if budget <= STEPS { 4 } else { 5 };
@@ -411,7 +411,7 @@ fn budgets_of_every_size() {
         assert_eq!(
             accepted(&Call {
                 budget,
-                ..small(60)
+                ..small(72)
             })
             .ran()
             .steps,
@@ -438,7 +438,7 @@ fn the_three_programs_at_every_budget() {
 fn drawn(rng: &mut Rng, plan: &[u8]) -> Call {
     let mut words = analyse(plan).map_or(vec![], |found| found.set_words());
     words.resize_with(SET_WORDS + rng.below(2), || rng.word());
-    let chip = vec![ERASED; rng.pick(&[0, 19, 40, 300])];
+    let chip = vec![ERASED; rng.pick(&[0, 23, 48, 300])];
     let count = rng.pick(&[0, 1, 5, 60]);
     let readings: Vec<i32> = (0..count).map(|_| value(rng)).collect();
     let room = rng.pick(&[0, 1, 8, 100]);
@@ -486,7 +486,7 @@ fn random_plans_that_are_often_refused() {
 
 /// Runs the small plan by runs of so many steps each, each lent the untaken readings, and gives chip, state and outputs.
 fn in_pieces(steps: u64) -> (Vec<u8>, Vec<u8>, Vec<i32>) {
-    let mut call = small(50);
+    let mut call = small(60);
     let mut taken = 0;
     let mut outputs = Vec::new();
     loop {

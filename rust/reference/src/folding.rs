@@ -1,9 +1,9 @@
-//! Folding (document 02, Q-6): what an old chip holds goes onto a new one as one save, in steps of
-//! one byte. Both are byte chips. It keeps no state: each call gets the number of bytes that are
-//! stored already.
+//! Folding (document 02, Q-6 and Q-8): what an old chip holds goes onto a new one as one save, in
+//! steps of one byte. Both are byte chips. It keeps no state: each call gets the number of bytes that
+//! are stored already. It reads a chip with marks of either kind and writes A3.
 
 use crate::check::check;
-use crate::journal::{check_length, read, Chip, Save, BYTE_CHIP, ERASED};
+use crate::journal::{check_length, read, read_as, Chip, Kind, Mark, Save, BYTE_CHIP, ERASED};
 use crate::machine::SET_WORDS;
 use crate::refusal::{BUFFER_TOO_SHORT, NEW_CHIP_DIFFERS, SAVE_TOO_LONG};
 
@@ -25,31 +25,59 @@ pub fn fold(
     budget: u64,
 ) -> Result<Folded, u32> {
     let held = read_old(plan, set_words, old, new.len())?;
-    let save = folded(&held).map_or(Vec::new(), |save| save.bytes());
-    store(&save, new, stored, budget)
+    store(&save_bytes(plan, &held, Kind::A3), new, stored, budget)
 }
 
-/// What the old chip holds, "checked as recovery checks but without a state": 1 to 9, 11 and 12.
-/// "11 covers both chips", so the new one's length is asked here.
+/// The same as until Q-8: it reads A2 marks alone and writes such a one.
+pub fn fold_until(
+    plan: &[u8],
+    set_words: usize,
+    old: &[u8],
+    new: &mut [u8],
+    stored: u64,
+    budget: u64,
+) -> Result<Folded, u32> {
+    check_lent(plan, set_words, old, new.len())?;
+    let held = read_as(plan, old, BYTE_CHIP, Kind::A2)?;
+    store(&save_bytes(plan, &held, Kind::A2), new, stored, budget)
+}
+
+/// What the old chip holds, "checked as recovery checks but without a state": 1 to 9, 11 and 12; but
+/// of Q-8 "folding gives only 16", since it reads A2 marks, which name no plan to compare.
 pub fn read_old(plan: &[u8], set_words: usize, old: &[u8], new_len: usize) -> Result<Chip, u32> {
+    check_lent(plan, set_words, old, new_len)?;
+    let held = read(plan, old, BYTE_CHIP)?;
+    held.check_owner(plan)?;
+    Ok(held)
+}
+
+/// 1 to 9 and 11. "11 covers both chips", so the new one's length is asked here.
+fn check_lent(plan: &[u8], set_words: usize, old: &[u8], new_len: usize) -> Result<(), u32> {
     check(plan)?;
     if set_words < SET_WORDS {
         return Err(BUFFER_TOO_SHORT);
     }
     check_length(old.len(), BYTE_CHIP)?;
-    check_length(new_len, BYTE_CHIP)?;
-    read(plan, old, BYTE_CHIP)
+    check_length(new_len, BYTE_CHIP)
 }
 
-/// "one save ..: every cell whose recovered value is not 0, rising, and the last mark's fields";
-/// none of "an old chip with no whole save".
-pub fn folded(old: &Chip) -> Option<Save> {
+/// "one save ..: every cell whose recovered value is not 0, rising, and the last mark's fields"; none
+/// of "an old chip with no whole save". Its own mark is of this kind, whatever the old ones are.
+pub fn folded(plan: &[u8], old: &Chip, kind: Kind) -> Option<Save> {
     let values = (0..=u8::MAX).map(|cell| (cell, old.value(cell)));
     let last = old.saves.last()?;
     Some(Save {
         records: values.filter(|(_, value)| *value != 0).collect(),
-        mark: last.mark,
+        mark: Mark {
+            owner: kind.owner(plan),
+            ..last.mark
+        },
     })
+}
+
+/// The bytes of that save, of which there are none where there is no save.
+pub fn save_bytes(plan: &[u8], old: &Chip, kind: Kind) -> Vec<u8> {
+    folded(plan, old, kind).map_or(Vec::new(), |save| save.bytes())
 }
 
 /// "stores the next bytes upward until budget or save is spent", a byte a step; or 13 or 14. It is
@@ -89,14 +117,28 @@ mod tests {
 
     const SMALL: &[u8] = include_bytes!("../../../examples/small.plan");
     /// The small plan's first save, which holds cell 0 with value 5.
-    const FIRST: [u8; 20] = [
+    const FIRST: [u8; 24] = [
+        0xA1, 0x00, 0x05, 0x00, 0x00, 0x00, 0xA3, 0x11, 0x00, 0x0F, 0x00, 0x01, 0x00, 0x00, 0x00,
+        0x01, 0x00, 0x00, 0x00, 0x14, 0x00, 0x44, 0x00, 0x5A,
+    ];
+    /// The same until Q-8.
+    const FIRST_A2: [u8; 20] = [
         0xA1, 0x00, 0x05, 0x00, 0x00, 0x00, 0xA2, 0x11, 0x00, 0x0F, 0x00, 0x01, 0x00, 0x00, 0x00,
         0x01, 0x00, 0x00, 0x00, 0x5A,
     ];
 
     /// MARKs of the small plan: with its EXCLUDE and without, and each with its own counts.
-    const MARK_1: [u8; 14] = [0xA2, 0x11, 0, 0x0F, 0, 1, 0, 0, 0, 1, 0, 0, 0, 0x5A];
-    const MARK_2: [u8; 14] = [0xA2, 0x11, 0, 0x00, 0, 2, 1, 0, 0, 3, 0, 0, 0, 0x5A];
+    const MARK_1: [u8; 18] = [
+        0xA3, 0x11, 0, 0x0F, 0, 1, 0, 0, 0, 1, 0, 0, 0, 0x14, 0, 0x44, 0, 0x5A,
+    ];
+    const MARK_2: [u8; 18] = [
+        0xA3, 0x11, 0, 0x00, 0, 2, 1, 0, 0, 3, 0, 0, 0, 0x14, 0, 0x44, 0, 0x5A,
+    ];
+
+    /// The same mark with A2.
+    fn old(mark: &[u8; 18]) -> Vec<u8> {
+        [&[0xA2], &mark[1..13], &[0x5A]].concat()
+    }
 
     fn record(cell: u8, value: i32) -> Vec<u8> {
         [&[RECORD, cell][..], &value.to_le_bytes()].concat()
@@ -142,13 +184,14 @@ mod tests {
 
     #[test]
     fn the_first_save_folds_to_itself() {
-        assert_eq!(folded_to(&FIRST, 20), FIRST);
+        assert_eq!(folded_to(&FIRST, 24), FIRST);
         assert_eq!(folded_to(&erased(&FIRST, 60), 33), erased(&FIRST, 33));
     }
 
     #[test]
     fn a_blank_chip_and_a_torn_one_leave_the_new_chip_blank() {
-        let no_save = [vec![], erased(&[], 60), FIRST[..19].to_vec()];
+        let torn = [FIRST[..23].to_vec(), FIRST_A2[..19].to_vec()];
+        let no_save = [vec![], erased(&[], 60)].into_iter().chain(torn);
         for old in no_save {
             for length in [0, 1, 20] {
                 let mut new = vec![ERASED; length];
@@ -178,8 +221,8 @@ mod tests {
             record(2, 78)[..3].to_vec(),
         ];
         let new = [record(0, 5), record(1, 300), record(2, -7), MARK_2.to_vec()];
-        assert_eq!(folded_to(&old.concat(), 32), new.concat());
-        assert_eq!(folded_to(&erased(&old.concat(), 99), 32), new.concat());
+        assert_eq!(folded_to(&old.concat(), 36), new.concat());
+        assert_eq!(folded_to(&erased(&old.concat(), 99), 36), new.concat());
     }
 
     #[test]
@@ -194,9 +237,9 @@ mod tests {
             MARK_2.to_vec(),
         ];
         let new = [record(2, 6), MARK_2.to_vec()].concat();
-        assert_eq!(folded_to(&old.concat(), 20), new);
+        assert_eq!(folded_to(&old.concat(), 24), new);
         let zeros = [record(2, 0), record(0, 0), MARK_1.to_vec()].concat();
-        assert_eq!(folded_to(&zeros, 14), MARK_1);
+        assert_eq!(folded_to(&zeros, 18), MARK_1);
     }
 
     #[test]
@@ -204,26 +247,26 @@ mod tests {
         let mut new = vec![ERASED; 25];
         let mut call = |stored, budget| fold(SMALL, SET_WORDS, &FIRST, &mut new, stored, budget);
         assert_eq!(call(0, 0), answer(0, false));
-        assert_eq!(call(0, 19), answer(19, false));
-        assert_eq!(call(19, 0), answer(19, false));
-        assert_eq!(call(19, 1), answer(20, true));
+        assert_eq!(call(0, 23), answer(23, false));
+        assert_eq!(call(23, 0), answer(23, false));
+        assert_eq!(call(23, 1), answer(24, true));
         for budget in [0, 1, u64::MAX] {
-            assert_eq!(call(20, budget), answer(20, true));
+            assert_eq!(call(24, budget), answer(24, true));
         }
         assert_eq!(new, erased(&FIRST, 25));
     }
 
     #[test]
     fn each_call_stores_the_next_bytes_upward() {
-        for budget in 1..=21 {
-            let mut new = vec![ERASED; 22];
+        for budget in 1..=25 {
+            let mut new = vec![ERASED; 26];
             let mut stored = 0;
-            while stored < 20 {
+            while stored < 24 {
                 let folded = fold(SMALL, SET_WORDS, &FIRST, &mut new, stored, budget).unwrap();
-                assert_eq!(folded.stored, 20.min(stored + budget));
-                assert_eq!(folded.finished, folded.stored == 20);
+                assert_eq!(folded.stored, 24.min(stored + budget));
+                assert_eq!(folded.finished, folded.stored == 24);
                 stored = folded.stored;
-                assert_eq!(new, erased(&FIRST[..stored as usize], 22));
+                assert_eq!(new, erased(&FIRST[..stored as usize], 26));
             }
         }
     }
@@ -233,11 +276,11 @@ mod tests {
         // A1, cell 0 and the value -1: of bytes 2 to 5 nobody can see whether they are stored.
         let old = [record(0, -1), MARK_1.to_vec()].concat();
         for stored in 2..=6 {
-            let mut new = erased(&[RECORD, 0], 20);
-            let folded = fold(SMALL, SET_WORDS, &old, &mut new, stored, 20 - stored);
-            assert_eq!((folded, new), (answer(20, true), old.clone()));
+            let mut new = erased(&[RECORD, 0], 24);
+            let folded = fold(SMALL, SET_WORDS, &old, &mut new, stored, 24 - stored);
+            assert_eq!((folded, new), (answer(24, true), old.clone()));
         }
-        let new = erased(&[RECORD, 0], 20);
+        let new = erased(&[RECORD, 0], 24);
         assert_eq!(refused(SMALL, SET_WORDS, &old, &new, 1), 13);
         assert_eq!(refused(SMALL, SET_WORDS, &old, &new, 7), 13);
     }
@@ -245,7 +288,7 @@ mod tests {
     #[test]
     fn another_new_chip_gives_13() {
         // A wrong byte before the number, right behind it, and at the chip's end.
-        for (at, byte) in [(0, 0xA2), (6, 0xFF), (7, 0x11), (24, 0x00)] {
+        for (at, byte) in [(0, 0xA3), (6, 0xA2), (6, 0xFF), (7, 0x11), (24, 0x00)] {
             let mut new = erased(&FIRST[..7], 25);
             new[at] = byte;
             assert_eq!(refused_first(&new, 7), 13, "byte {at}");
@@ -255,27 +298,27 @@ mod tests {
         assert_eq!(refused_first(&new, 6), 13);
         assert_eq!(refused_first(&new, 8), 13);
         // Behind the whole save, too, FF is due.
-        assert_eq!(refused_first(&[&FIRST[..], &[0x5A]].concat(), 20), 13);
+        assert_eq!(refused_first(&[&FIRST[..], &[0x5A]].concat(), 24), 13);
     }
 
     #[test]
     fn a_number_beyond_the_save_or_the_new_chip_gives_13() {
         let new = erased(&FIRST, 25);
-        for stored in [21, 25, 26, 1 << 32, (1 << 32) + 20, u64::MAX] {
+        for stored in [25, 26, 1 << 32, (1 << 32) + 24, u64::MAX] {
             assert_eq!(refused_first(&new, stored), 13, "{stored}");
         }
-        assert_eq!(refused_first(&FIRST, 21), 13);
-        assert_eq!(refused_first(&FIRST[..19], 20), 13);
+        assert_eq!(refused_first(&FIRST, 25), 13);
+        assert_eq!(refused_first(&FIRST[..23], 24), 13);
         assert_eq!(refused_first(&[], 1), 13);
     }
 
     #[test]
     fn a_save_longer_than_the_new_chip_gives_14() {
-        for length in 0..20 {
+        for length in 0..24 {
             assert_eq!(refused_first(&vec![ERASED; length], 0), 14);
             assert_eq!(refused_first(&FIRST[..length], length as u64), 14);
         }
-        assert_eq!(folded_to(&FIRST, 20), FIRST);
+        assert_eq!(folded_to(&FIRST, 24), FIRST);
     }
 
     #[test]
@@ -292,6 +335,12 @@ mod tests {
         assert_eq!(refused(SMALL, SET_WORDS, &FIRST, &long, 0), 11);
         assert_eq!(refused(SMALL, SET_WORDS, damaged, &[0x00], 9), 12);
         assert_eq!(refused(SMALL, SET_WORDS, damaged, &[ERASED], 0), 12);
+        let other = other_owner(&FIRST);
+        assert_eq!(refused(SMALL, SET_WORDS, &other, &long, 9), 11);
+        let both = [&other[..], &[0x00]].concat();
+        assert_eq!(refused(SMALL, SET_WORDS, &both, &[0x00], 9), 12);
+        assert_eq!(refused(SMALL, SET_WORDS, &other, &[0x00], 0), 16);
+        assert_eq!(refused(SMALL, SET_WORDS, &other, &[ERASED], 0), 16);
         assert_eq!(refused(SMALL, SET_WORDS, &FIRST, &[0x00], 0), 13);
         assert_eq!(refused(SMALL, SET_WORDS, &FIRST, &[ERASED], 2), 13);
         assert_eq!(refused(SMALL, SET_WORDS, &FIRST, &[ERASED], 0), 14);
@@ -301,5 +350,71 @@ mod tests {
     fn the_longest_chips_fold() {
         let old = erased(&FIRST, MAX_CHIP);
         assert_eq!(folded_to(&old, MAX_CHIP), old);
+    }
+
+    /// The small plan's save with another sum in its mark, by 1.
+    fn other_owner(save: &[u8]) -> Vec<u8> {
+        let mut save = save.to_vec();
+        let sum = save.len() - 3;
+        save[sum] += 1;
+        save
+    }
+
+    #[test]
+    fn a_chip_with_a2_marks_folds_to_an_a3_mark() {
+        assert_eq!(folded_to(&FIRST_A2, 24), FIRST);
+        let chip = |marks: [&[u8]; 2]| {
+            let first = [&record(2, -7), &record(0, 5), marks[0]].concat();
+            [&first, &record(1, 300), marks[1]].concat()
+        };
+        let [a2, a3] = [
+            chip([&old(&MARK_1), &old(&MARK_2)]),
+            chip([&MARK_1, &MARK_2]),
+        ];
+        let new = [record(0, 5), record(1, 300), record(2, -7), MARK_2.to_vec()];
+        for torn in [&[][..], &[RECORD, 1], &[RECORD, 1, 2, 3, 4, 5]] {
+            for old in [&a2, &a3] {
+                let old = [&old[..], torn].concat();
+                assert_eq!(folded_to(&old, 36), new.concat());
+            }
+        }
+        let torn = [&a2[..], &FIRST_A2[..9]].concat();
+        assert_eq!(folded_to(&torn, 36), new.concat());
+    }
+
+    #[test]
+    fn a_chip_with_both_marks_is_damaged() {
+        let blank = [ERASED; 60];
+        for behind in 7..=FIRST.len() {
+            let old = [&FIRST_A2[..], &FIRST[..behind]].concat();
+            assert_eq!(refused(SMALL, SET_WORDS, &old, &blank, 0), 12, "{behind}");
+        }
+        for behind in 7..=FIRST_A2.len() {
+            let old = [&FIRST[..], &FIRST_A2[..behind]].concat();
+            assert_eq!(refused(SMALL, SET_WORDS, &old, &blank, 0), 12, "{behind}");
+        }
+    }
+
+    #[test]
+    fn a_whole_mark_of_another_plan_gives_16() {
+        let (own, other) = (MARK_1.to_vec(), other_owner(&MARK_1));
+        let blank = [ERASED; 60];
+        for marks in [vec![&other], vec![&own, &other], vec![&other, &own]] {
+            let old: Vec<u8> = marks.into_iter().flatten().copied().collect();
+            assert_eq!(refused(SMALL, SET_WORDS, &old, &blank, 0), 16);
+        }
+        // A torn one names nobody.
+        let torn = [&own[..], &other[..17]].concat();
+        assert_eq!(folded_to(&torn, 18), own);
+    }
+
+    #[test]
+    fn until_q_8_a_fold_wrote_a2_marks() {
+        let mut new = vec![ERASED; 30];
+        let folded = fold_until(SMALL, SET_WORDS, &FIRST_A2, &mut new, 0, 100);
+        assert_eq!((folded, new), (answer(20, true), erased(&FIRST_A2, 30)));
+        let mut new = vec![ERASED; 30];
+        let refused = fold_until(SMALL, SET_WORDS, &FIRST, &mut new, 0, 100);
+        assert_eq!((refused, new), (Err(12), vec![ERASED; 30]));
     }
 }

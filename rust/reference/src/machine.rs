@@ -1,11 +1,11 @@
-//! The machine (document 01, 'Plans' and 'Marks, steps and the chip'; document 02, Q-4): its state, a step and a run.
-//! It works in place on the state and on the chip, a step at a time, as the documents' sentences go. The page length is
-//! open: with pages of one byte it is document 01's machine.
+//! The machine (document 01, 'Plans' and 'Marks, steps and the chip'; document 02, Q-4 and Q-8): its state, a step and
+//! a run. It works in place on the state and on the chip, a step at a time, as the documents' sentences go. The page
+//! length and the kind of mark are open: with pages of one byte and A2 marks it is document 01's machine.
 
 use std::collections::BTreeMap;
 
 use crate::check::{check, instructions};
-use crate::journal::{check_length, Mark as Commit, Save, ERASED};
+use crate::journal::{check_length, Kind, Mark as Commit, Save, ERASED};
 use crate::program::{Instruction, Table, LENGTHS, MAX_EXCLUDES};
 use crate::refusal::{BUFFER_TOO_SHORT, STATE_NOT_SOUND};
 
@@ -95,18 +95,29 @@ pub struct Ran {
     pub given: Vec<i32>,
 }
 
-/// An accepted plan and the words lent with it, for chips of one page length.
+/// An accepted plan and the words lent with it, for chips of one page length and one kind of mark.
 pub struct Machine<'a> {
     pub(crate) plan: &'a [u8],
     pub(crate) cells: usize,
     pub(crate) page: usize,
+    pub(crate) kind: Kind,
     commands: BTreeMap<u32, Instruction>,
     sets: &'a [u64],
 }
 
 impl<'a> Machine<'a> {
-    /// The machine for a plan and its words, or the refusal, 1 to 9.
+    /// The machine for a plan and its words, or the refusal, 1 to 9. It writes A3 marks, as all do since Q-8.
     pub fn new(plan: &'a [u8], sets: &'a [u64], page: usize) -> Result<Machine<'a>, u32> {
+        Machine::of_kind(plan, sets, page, Kind::A3)
+    }
+
+    /// The same for marks of this kind: with A2 it is the machine until Q-8.
+    pub fn of_kind(
+        plan: &'a [u8],
+        sets: &'a [u64],
+        page: usize,
+        kind: Kind,
+    ) -> Result<Machine<'a>, u32> {
         let cells = check(plan)?.cells as usize;
         if sets.len() < SET_WORDS {
             return Err(BUFFER_TOO_SHORT);
@@ -117,6 +128,7 @@ impl<'a> Machine<'a> {
             plan,
             cells,
             page,
+            kind,
             commands,
             sets,
         })
@@ -233,6 +245,7 @@ impl<'a> Machine<'a> {
                 exclude: state.exclude as u16,
                 readings: state.readings,
                 outputs: state.outputs,
+                owner: self.kind.owner(self.plan),
             },
         }
     }

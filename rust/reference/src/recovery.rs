@@ -1,14 +1,18 @@
-//! Recovery (document 01, 'Marks, steps and the chip'): the state that a chip's whole saves give. It stores nothing on
-//! the chip; the run that follows erases the torn pages.
+//! Recovery (document 01, 'Marks, steps and the chip'; document 02, Q-8): the state that a chip's whole saves give. It
+//! stores nothing on the chip; the run that follows erases the torn pages.
 
-use crate::journal::read;
+use crate::journal::{read_as, read_for_recovery, Kind};
 use crate::machine::{is_in, Machine, Mark, State};
 
 impl Machine<'_> {
-    /// Overwrites the state with what the chip holds; or gives the refusal, 11 or 12, and alters nothing. The state is
-    /// no bytes here, so it has no length that could give 10.
+    /// Overwrites the state with what the chip holds; or gives the refusal, 11, 12, 15 or 16, and alters nothing. The
+    /// state is no bytes here, so it has no length that could give 10. With A2 marks it is as document 01 has it, which
+    /// knows neither 15 nor 16.
     pub fn recover(&self, chip: &[u8], state: &mut State) -> Result<(), u32> {
-        let held = read(self.plan, chip, self.page)?;
+        let held = match self.kind {
+            Kind::A2 => read_as(self.plan, chip, self.page, Kind::A2)?,
+            Kind::A3 => read_for_recovery(self.plan, chip, self.page)?,
+        };
         let last = held.last();
         let mut recovered = State {
             place: last.place.into(),
@@ -50,10 +54,11 @@ mod tests {
 
     const SMALL: &[u8] = include_bytes!("../../../examples/small.plan");
     /// The small plan's first two saves, with readings 5 and 7.
-    const SAVES: [u8; 40] = [
-        0xA1, 0x00, 0x05, 0x00, 0x00, 0x00, 0xA2, 0x11, 0x00, 0x0F, 0x00, 0x01, 0x00, 0x00, 0x00,
-        0x01, 0x00, 0x00, 0x00, 0x5A, 0xA1, 0x00, 0x0C, 0x00, 0x00, 0x00, 0xA2, 0x11, 0x00, 0x0F,
-        0x00, 0x02, 0x00, 0x00, 0x00, 0x02, 0x00, 0x00, 0x00, 0x5A,
+    const SAVES: [u8; 48] = [
+        0xA1, 0x00, 0x05, 0x00, 0x00, 0x00, 0xA3, 0x11, 0x00, 0x0F, 0x00, 0x01, 0x00, 0x00, 0x00,
+        0x01, 0x00, 0x00, 0x00, 0x14, 0x00, 0x44, 0x00, 0x5A, 0xA1, 0x00, 0x0C, 0x00, 0x00, 0x00,
+        0xA3, 0x11, 0x00, 0x0F, 0x00, 0x02, 0x00, 0x00, 0x00, 0x02, 0x00, 0x00, 0x00, 0x14, 0x00,
+        0x44, 0x00, 0x5A,
     ];
 
     fn sets(plan: &[u8]) -> Vec<u64> {
@@ -110,8 +115,8 @@ mod tests {
             exclude: 15,
             readings: 1,
             outputs: 1,
-            write: 20,
-            erase: 13,
+            write: 24,
+            erase: 9,
             ..State::first()
         };
         expected.cells[0] = 5;
@@ -125,9 +130,9 @@ mod tests {
     fn a_save_counts_from_its_last_byte_on() {
         for bytes in 0..=SAVES.len() {
             let state = recovered(SMALL, &stored(bytes)).unwrap();
-            let whole = bytes / 20;
-            assert_eq!(state.write as usize, 20 * whole);
-            assert_eq!(state.erase as usize, bytes - 20 * whole);
+            let whole = bytes / 24;
+            assert_eq!(state.write as usize, 24 * whole);
+            assert_eq!(state.erase as usize, bytes - 24 * whole);
             assert_eq!(state.cells[0], [0, 5, 12][whole]);
             assert_eq!([state.readings, state.outputs], [whole as u32; 2]);
         }
@@ -143,8 +148,8 @@ mod tests {
     #[test]
     fn a_damaged_chip() {
         assert_eq!(recovered(SMALL, &[0x00, ERASED]), Err(12));
-        let mut chip = stored(40);
-        chip[40] = 0x00;
+        let mut chip = stored(48);
+        chip[48] = 0x00;
         assert_eq!(recovered(SMALL, &chip), Err(12));
     }
 
@@ -157,7 +162,12 @@ mod tests {
         words[..4].fill(u64::MAX);
         words[8] = 0b1_1100;
         words[12] = 0b1_1010;
-        let save = |exclude: u8| [0xA2, 0x05, 0, exclude, 0, 0, 0, 0, 0, 0, 0, 0, 0, 0x5A];
+        // The plan has 6 bytes, and their sum is 58.
+        let save = |exclude: u8| {
+            [
+                0xA3, 0x05, 0, exclude, 0, 0, 0, 0, 0, 0, 0, 0, 0, 6, 0, 58, 0, 0x5A,
+            ]
+        };
         let marks = |chip: &[u8]| {
             let mut state = spoiled();
             let machine = Machine::new(&plan, &words, BYTE_CHIP).unwrap();
@@ -193,7 +203,7 @@ mod tests {
 
     /// The small plan's first save on a page chip, as many of its pages as are given, then FF up to 64.
     fn pages(stored: usize) -> Vec<u8> {
-        let mut chip = SAVES[..20.min(16 * stored)].to_vec();
+        let mut chip = SAVES[..24.min(16 * stored)].to_vec();
         chip.resize(64, ERASED);
         chip
     }
@@ -213,6 +223,52 @@ mod tests {
         assert_eq!((state.write, state.erase), (32, 0));
         assert_eq!((state.place, state.cells[0]), (17, 5));
         assert_eq!([state.readings, state.outputs], [1, 1]);
+    }
+
+    /// The small plan's saves up to so many bytes, with A2 marks, then FF up to 60.
+    fn stored_a2(bytes: usize) -> Vec<u8> {
+        let mut save = SAVES[..24].to_vec();
+        save.drain(19..23);
+        save[6] = 0xA2;
+        let mut chip = [&save[..], &save].concat();
+        chip.truncate(bytes);
+        chip.resize(60, ERASED);
+        chip
+    }
+
+    #[test]
+    fn with_a2_marks_it_is_document_01s_recovery() {
+        let words = sets(SMALL);
+        let machine = Machine::of_kind(SMALL, &words, BYTE_CHIP, Kind::A2).unwrap();
+        for bytes in 0..=40 {
+            let mut state = spoiled();
+            let answer = machine.recover(&stored_a2(bytes), &mut state);
+            assert_eq!((answer, state.stop), (Ok(()), None));
+            let whole = bytes / 20;
+            assert_eq!(state.write as usize, 20 * whole);
+            assert_eq!(state.erase as usize, bytes - 20 * whole);
+            assert_eq!(state.cells[0], [0, 5, 5][whole]);
+        }
+        let mut state = spoiled();
+        assert_eq!(machine.recover(&stored(24), &mut state), Err(12));
+        assert_eq!(state, spoiled());
+    }
+
+    #[test]
+    fn old_marks_give_15_and_another_plan_16() {
+        for bytes in 0..=40 {
+            let result = match bytes {
+                0..=6 => None,
+                7..20 => Some(12),
+                _ => Some(15),
+            };
+            assert_eq!(recovered(SMALL, &stored_a2(bytes)).err(), result, "{bytes}");
+        }
+        for bytes in 24..=48 {
+            let mut chip = stored(bytes);
+            chip[21] += 1;
+            assert_eq!(recovered(SMALL, &chip), Err(16));
+        }
     }
 
     #[test]

@@ -28,3 +28,7 @@ pub const CHIP_DAMAGED: u32 = 12;
 pub const NEW_CHIP_DIFFERS: u32 = 13;
 /// The save of a fold is longer than the new chip.
 pub const SAVE_TOO_LONG: u32 = 14;
+/// Every mark of the chip is A2: it is an old one, to be folded.
+pub const OLD_MARKS: u32 = 15;
+/// A whole mark names another plan, by its length or sum.
+pub const OTHER_PLAN: u32 = 16;

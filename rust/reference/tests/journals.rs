@@ -5,7 +5,7 @@ use std::fmt::Write;
 use std::fs;
 use std::path::Path;
 
-use reference::journal::{read, BYTE_CHIP, ERASED, MAX_CHIP};
+use reference::journal::{read_for_recovery, BYTE_CHIP, ERASED, MAX_CHIP};
 
 const SMALL: &[u8] = &[
     0x02, 0x02, 0x00, 0x00, 0x00, 0x00, 0x00, 0x07, 0x01, 0x04, 0x00, 0x00, 0x01, 0x08, 0x00, 0x0D,
@@ -16,22 +16,31 @@ const ONE_CELL: &[u8] = &[0x00, 0x0E, 0x01];
 const NO_CHECKPOINT: &[u8] = &[0x00, 0x01];
 
 /// The small plan's first two saves.
-const SAVES: [u8; 40] = [
-    0xA1, 0x00, 0x05, 0x00, 0x00, 0x00, 0xA2, 0x11, 0x00, 0x0F, 0x00, 0x01, 0x00, 0x00, 0x00, 0x01,
-    0x00, 0x00, 0x00, 0x5A, 0xA1, 0x00, 0x0C, 0x00, 0x00, 0x00, 0xA2, 0x11, 0x00, 0x0F, 0x00, 0x02,
-    0x00, 0x00, 0x00, 0x02, 0x00, 0x00, 0x00, 0x5A,
+const SAVES: [u8; 48] = [
+    0xA1, 0x00, 0x05, 0x00, 0x00, 0x00, 0xA3, 0x11, 0x00, 0x0F, 0x00, 0x01, 0x00, 0x00, 0x00, 0x01,
+    0x00, 0x00, 0x00, 0x14, 0x00, 0x44, 0x00, 0x5A, 0xA1, 0x00, 0x0C, 0x00, 0x00, 0x00, 0xA3, 0x11,
+    0x00, 0x0F, 0x00, 0x02, 0x00, 0x00, 0x00, 0x02, 0x00, 0x00, 0x00, 0x14, 0x00, 0x44, 0x00, 0x5A,
 ];
 
-/// A whole MARK of `ONE_CELL` that has taken 4,294,902,016 readings, and one more up to its count.
-const COUNTED: [u8; 19] = [
-    0xA2, 0x02, 0x00, 0x00, 0x00, 0x00, 0x01, 0xFF, 0xFF, 0x00, 0x00, 0x00, 0x00, 0x5A, 0xA2, 0x02,
-    0x00, 0x00, 0x00,
+/// A whole MARK of `ONE_CELL`, and one with A2.
+const MARK: [u8; 18] = [
+    0xA3, 0x02, 0x00, 0x00, 0x00, 0x00, 0x00, 0x00, 0x00, 0x00, 0x00, 0x00, 0x00, 0x03, 0x00, 0x0F,
+    0x00, 0x5A,
+];
+const MARK_A2: [u8; 14] = [
+    0xA2, 0x02, 0x00, 0x00, 0x00, 0x00, 0x00, 0x00, 0x00, 0x00, 0x00, 0x00, 0x00, 0x5A,
+];
+
+/// One that has taken 4,294,902,016 readings, and one more up to its count.
+const COUNTED: [u8; 23] = [
+    0xA3, 0x02, 0x00, 0x00, 0x00, 0x00, 0x01, 0xFF, 0xFF, 0x00, 0x00, 0x00, 0x00, 0x03, 0x00, 0x0F,
+    0x00, 0x5A, 0xA3, 0x02, 0x00, 0x00, 0x00,
 ];
 
 /// A row: its name and what the chip holds, as `vectors` writes it.
 fn row(name: &str, plan: &[u8], chip: &[u8]) -> String {
     let mut line = format!("{name}:");
-    match read(plan, chip, BYTE_CHIP) {
+    match read_for_recovery(plan, chip, BYTE_CHIP) {
         Err(number) => write!(line, " {number}").unwrap(),
         Ok(chip) => {
             let last = chip.last();
@@ -47,7 +56,7 @@ fn row(name: &str, plan: &[u8], chip: &[u8]) -> String {
 }
 
 fn stored() -> String {
-    let mut chip = [ERASED; 48];
+    let mut chip = [ERASED; 56];
     let mut text = String::new();
     for stored in 0..=SAVES.len() {
         chip[..stored].copy_from_slice(&SAVES[..stored]);
@@ -58,7 +67,7 @@ fn stored() -> String {
 
 fn altered(byte: u8) -> String {
     let mut text = String::new();
-    for at in 20..40 {
+    for at in 24..48 {
         let mut chip = SAVES;
         chip[at] = byte;
         text += &row(&format!("byte {byte:02X} at {at}"), SMALL, &chip);
@@ -68,16 +77,16 @@ fn altered(byte: u8) -> String {
 
 fn edges() -> String {
     let all_cells = [0xA1, 0x00, 0x01, 0x02, 0x03, 0x04];
-    let no_exclude = [0xA2, 0x02, 0x00];
+    let no_exclude = [0xA3, 0x02, 0x00];
     let then = |bytes: &[u8], last: &[u8]| [bytes, last].concat();
     [
         row("no CHECKPOINT, A1", NO_CHECKPOINT, &[0xA1]),
-        row("no CHECKPOINT, A2", NO_CHECKPOINT, &[0xA2]),
+        row("no CHECKPOINT, A3", NO_CHECKPOINT, &[0xA3]),
         row("no CHECKPOINT, FF", NO_CHECKPOINT, &[0xFF]),
         row("all cells, A1", ONE_CELL, &then(&all_cells, &[0xA1])),
-        row("all cells, A2", ONE_CELL, &then(&all_cells, &[0xA2])),
-        row("low byte of the place", ONE_CELL, &[0xA2, 0x02]),
-        row("low byte of no place", ONE_CELL, &[0xA2, 0x01]),
+        row("all cells, A3", ONE_CELL, &then(&all_cells, &[0xA3])),
+        row("low byte of the place", ONE_CELL, &[0xA3, 0x02]),
+        row("low byte of no place", ONE_CELL, &[0xA3, 0x01]),
         row(
             "low byte 0 for no EXCLUDE",
             ONE_CELL,
@@ -102,11 +111,35 @@ fn edges() -> String {
     .concat()
 }
 
+/// Marks of each kind, of both, torn ones, and those of another plan.
+fn owners() -> String {
+    let then = |bytes: &[u8], last: &[u8]| [bytes, last].concat();
+    let other = |at: usize| {
+        let mut mark = MARK;
+        mark[at] += 1;
+        mark
+    };
+    [
+        row("A2", ONE_CELL, &MARK_A2),
+        row("A2, torn A2", ONE_CELL, &then(&MARK_A2, &[0xA2])),
+        row("A2, torn A3", ONE_CELL, &then(&MARK_A2, &[0xA3])),
+        row("torn A2", ONE_CELL, &[0xA2, 0x02]),
+        row("torn A3", ONE_CELL, &[0xA3, 0x02]),
+        row("another length", ONE_CELL, &other(13)),
+        row("another sum", ONE_CELL, &other(15)),
+        row(
+            "another plan's, then its own",
+            ONE_CELL,
+            &then(&other(13), &MARK),
+        ),
+    ]
+    .concat()
+}
+
 #[test]
 fn vectors_prints_what_the_reference_answers() {
     let record = |value| [0xA1, 0x00, value, 0x00, 0x00, 0x00];
-    let mark = &COUNTED[..5];
-    let twice = [&record(1)[..], &record(2), mark, &[0; 8], &[0x5A]].concat();
+    let twice = [&record(1)[..], &record(2), &MARK].concat();
     let long = vec![ERASED; MAX_CHIP + 1];
     let rows = [
         stored(),
@@ -119,6 +152,7 @@ fn vectors_prints_what_the_reference_answers() {
         row("no bytes", ONE_CELL, &[]),
         row("a refused plan", &[0x00], &[]),
         row("a cell twice", ONE_CELL, &twice),
+        owners(),
         row("65537 bytes of FF", ONE_CELL, &long),
         row("65536 bytes of FF", ONE_CELL, &long[..MAX_CHIP]),
     ]

@@ -11,7 +11,7 @@ use reference::machine::{Machine, State, Stop, SET_WORDS};
 const SMALL: &[u8] = include_bytes!("../../../examples/small.plan");
 const READINGS: [i32; 3] = [5, 7, -2];
 /// The bytes of one of the plan's saves.
-const SAVE: usize = 20;
+const SAVE: usize = 24;
 
 /// A line to a call: its answer, the registers and the plan's three cells.
 fn line(name: &str, answer: &str, state: &State) -> String {

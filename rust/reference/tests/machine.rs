@@ -3,7 +3,7 @@
 mod common;
 
 use reference::analyse;
-use reference::journal::{read, BYTE_CHIP, ERASED, PAGE_CHIP};
+use reference::journal::{read, Kind, BYTE_CHIP, ERASED, PAGE_CHIP};
 use reference::machine::{Ended, Machine, Mark, Ran, State, Stop, SET_WORDS};
 
 use common::plan;
@@ -17,11 +17,12 @@ fn sets(plan: &[u8]) -> Vec<u64> {
     words
 }
 
-/// A host with one plan, its sets, a chip of one kind and a state.
+/// A host with one plan, its sets, a chip of one kind, with marks of one kind, and a state.
 struct Host {
     plan: Vec<u8>,
     sets: Vec<u64>,
     page: usize,
+    kind: Kind,
     chip: Vec<u8>,
     state: State,
 }
@@ -32,6 +33,7 @@ impl Host {
             plan: plan.to_vec(),
             sets: sets(plan),
             page: BYTE_CHIP,
+            kind: Kind::A3,
             chip: vec![ERASED; chip],
             state: State::first(),
         }
@@ -45,8 +47,16 @@ impl Host {
         }
     }
 
+    /// The same until Q-8.
+    fn with_a2(plan: &[u8], chip: usize) -> Host {
+        Host {
+            kind: Kind::A2,
+            ..Host::new(plan, chip)
+        }
+    }
+
     fn run(&mut self, readings: &[i32], room: usize, budget: u64) -> Result<Ran, u32> {
-        let machine = Machine::new(&self.plan, &self.sets, self.page)?;
+        let machine = Machine::of_kind(&self.plan, &self.sets, self.page, self.kind)?;
         machine.run(&mut self.chip, &mut self.state, readings, room, budget)
     }
 }
@@ -62,21 +72,37 @@ fn all(plan: &[u8], chip: usize, readings: &[i32]) -> (Ended, Vec<i32>) {
 #[test]
 fn the_small_plan_gives_5_12_10() {
     let expected = (Ended::NoReading, vec![5, 12, 10]);
-    for chip in [0, 19, 20, 100] {
+    for chip in [0, 23, 24, 100] {
         assert_eq!(all(SMALL, chip, &[5, 7, -2]), expected);
     }
 }
 
+/// The small plan's first save.
+const FIRST: [u8; 24] = [
+    0xA1, 0x00, 0x05, 0x00, 0x00, 0x00, 0xA3, 0x11, 0x00, 0x0F, 0x00, 0x01, 0x00, 0x00, 0x00, 0x01,
+    0x00, 0x00, 0x00, 0x14, 0x00, 0x44, 0x00, 0x5A,
+];
+
 #[test]
-fn twenty_bytes_hold_the_first_save_and_nineteen_none() {
+fn twenty_four_bytes_hold_the_first_save_and_twenty_three_none() {
+    let mut host = Host::new(SMALL, 24);
+    host.run(&[5], 10, 1000).unwrap();
+    assert_eq!(host.chip, FIRST);
+    let mut host = Host::new(SMALL, 23);
+    host.run(&[5], 10, 1000).unwrap();
+    assert_eq!(host.chip, [ERASED; 23]);
+}
+
+#[test]
+fn until_q_8_twenty_bytes_held_the_first_save_and_nineteen_none() {
     let first = [
         0xA1, 0x00, 0x05, 0x00, 0x00, 0x00, 0xA2, 0x11, 0x00, 0x0F, 0x00, 0x01, 0x00, 0x00, 0x00,
         0x01, 0x00, 0x00, 0x00, 0x5A,
     ];
-    let mut host = Host::new(SMALL, 20);
+    let mut host = Host::with_a2(SMALL, 20);
     host.run(&[5], 10, 1000).unwrap();
     assert_eq!(host.chip, first);
-    let mut host = Host::new(SMALL, 19);
+    let mut host = Host::with_a2(SMALL, 19);
     host.run(&[5], 10, 1000).unwrap();
     assert_eq!(host.chip, [ERASED; 19]);
 }
@@ -96,7 +122,7 @@ fn cut_after_33_bytes_cell_0_is_5_and_both_counts_are_1() {
     }
     assert!(steps > 33);
     let chip = read(SMALL, &host.chip, BYTE_CHIP).unwrap();
-    assert_eq!((chip.end, chip.torn, chip.value(0)), (20, 13, 5));
+    assert_eq!((chip.end, chip.torn, chip.value(0)), (24, 9, 5));
     assert_eq!((chip.last().readings, chip.last().outputs), (1, 1));
 }
 
@@ -187,17 +213,17 @@ fn marks_by_the_rule_at_exclude_and_the_last_byte() {
     let marks = |host: &Host| host.state.marks[..4].to_vec();
     use Mark::*;
     assert_eq!(marks(&host), [Dead, Pending, Dead, Include]);
-    host.run(&[], 0, 26).unwrap();
+    host.run(&[], 0, 30).unwrap();
     assert_eq!(marks(&host), [Dead, Pending, Dead, Include]);
     host.run(&[], 0, 1).unwrap();
     assert_eq!(marks(&host), [Dead, Kept, Dead, Include]);
-    assert_eq!((host.state.place, host.state.write), (3, 26));
+    assert_eq!((host.state.place, host.state.write), (3, 30));
 }
 
 #[test]
 fn a_save_passed_over_changes_nothing() {
     let plan = [0x00, 0x0D, 0x0E, 0x01];
-    let mut host = Host::new(&plan, 19);
+    let mut host = Host::new(&plan, 23);
     host.sets = vec![0; SET_WORDS];
     host.sets[4] = 1;
     host.run(&[], 0, 2).unwrap();
@@ -243,9 +269,9 @@ fn each_part_of_soundness() {
         |s| (s.write, s.erase) = (u32::MAX, u32::MAX),
         |s| s.saving = Some(0),
         |s| (s.place, s.saving, s.erase) = (16, Some(0), 1),
-        |s| (s.place, s.saving) = (16, Some(32)),
-        |s| (s.place, s.saving, s.write) = (16, Some(0), 69),
-        |s| (s.place, s.saving, s.write) = (16, Some(31), 100),
+        |s| (s.place, s.saving) = (16, Some(36)),
+        |s| (s.place, s.saving, s.write) = (16, Some(0), 65),
+        |s| (s.place, s.saving, s.write) = (16, Some(35), 100),
     ];
     for (number, alter) in altered.iter().enumerate() {
         let mut host = Host::new(SMALL, 100);
@@ -254,8 +280,8 @@ fn each_part_of_soundness() {
     }
     let sound: [fn(&mut State); 4] = [
         |s| s.exclude = 15,
-        |s| (s.place, s.saving, s.write) = (16, Some(0), 68),
-        |s| (s.place, s.saving, s.write) = (16, Some(31), 99),
+        |s| (s.place, s.saving, s.write) = (16, Some(0), 64),
+        |s| (s.place, s.saving, s.write) = (16, Some(35), 99),
         |s| (s.write, s.erase) = (60, 40),
     ];
     for alter in sound {
@@ -326,10 +352,10 @@ fn a_run_in_many_calls_is_the_run_in_one() {
     }
 }
 
-/// The small plan's first save on a page chip: 20 bytes and 12 of FF.
+/// The small plan's first save on a page chip: 24 bytes and 8 of FF.
 const FIRST_PAGES: [u8; 32] = [
-    0xA1, 0x00, 0x05, 0x00, 0x00, 0x00, 0xA2, 0x11, 0x00, 0x0F, 0x00, 0x01, 0x00, 0x00, 0x00, 0x01,
-    0x00, 0x00, 0x00, 0x5A, 0xFF, 0xFF, 0xFF, 0xFF, 0xFF, 0xFF, 0xFF, 0xFF, 0xFF, 0xFF, 0xFF, 0xFF,
+    0xA1, 0x00, 0x05, 0x00, 0x00, 0x00, 0xA3, 0x11, 0x00, 0x0F, 0x00, 0x01, 0x00, 0x00, 0x00, 0x01,
+    0x00, 0x00, 0x00, 0x14, 0x00, 0x44, 0x00, 0x5A, 0xFF, 0xFF, 0xFF, 0xFF, 0xFF, 0xFF, 0xFF, 0xFF,
 ];
 
 #[test]
@@ -345,7 +371,7 @@ fn two_pages_hold_the_first_save_and_one_none() {
         assert_eq!((ran.ended, ran.given), (Ended::NoReading, vec![5, 12]));
         assert_eq!(host.chip, chip, "{length} bytes");
     }
-    for length in [15, 17, 20, 31, 33] {
+    for length in [15, 17, 24, 31, 33] {
         let mut host = Host::with_pages(SMALL, length);
         assert_eq!(host.run(&[5], 10, 1000), Err(11), "{length} bytes");
     }
@@ -389,9 +415,9 @@ fn a_state_counts_in_pages() {
         |s, bytes| s.erase = bytes,
         |s, bytes| (s.place, s.saving) = (16, Some(bytes)),
     ];
-    // The save before the first EXCLUDE has three records: 32 bytes.
+    // The save before the first EXCLUDE has three records: 36 bytes, so three pages.
     for alter in fields {
-        for bytes in 0..32 {
+        for bytes in 0..48 {
             let mut host = Host::with_pages(SMALL, 64);
             alter(&mut host.state, bytes);
             let answer = host.run(&[], 0, 1).map(|ran| ran.steps);
@@ -403,7 +429,7 @@ fn a_state_counts_in_pages() {
 
 #[test]
 fn the_rest_of_a_save_fits_with_its_filling() {
-    // Of the save's cells one is Dead: 26 bytes, so 32 with the filling.
+    // Of the save's cells one is Dead: 30 bytes, so 32 with the filling.
     for (write, stored, chip, sound) in [
         (0, 0, 32, true),
         (16, 0, 32, false),
@@ -414,7 +440,7 @@ fn the_rest_of_a_save_fits_with_its_filling() {
         // A chip that is no whole pages: 11 where the state is sound for its length.
         (16, 16, 33, true),
         (16, 16, 31, false),
-        (0, 0, 26, false),
+        (0, 0, 30, false),
     ] {
         let mut host = Host::with_pages(SMALL, chip);
         host.state.marks[1] = Mark::Dead;

@@ -137,9 +137,9 @@ fn refusals() -> String {
 fn rows() -> String {
     [
         small(0, &[5, 7, -2], &[0; 3], 1000).text("readings 5 7 -2"),
-        small(20, &[5], &[0], 1000).text("20 bytes of chip"),
-        small(19, &[5], &[0], 1000).text("19 bytes of chip"),
-        small(40, &[5, 7], &[0; 3], 40).text("cut inside a save"),
+        small(24, &[5], &[0], 1000).text("24 bytes of chip"),
+        small(23, &[5], &[0], 1000).text("23 bytes of chip"),
+        small(48, &[5, 7], &[0; 3], 40).text("cut inside a save"),
         small(0, &[5], &[7; 2], 0).text("no budget"),
         small(0, &[5], &[7; 2], 3).text("budget spent"),
         small(0, &[5], &[7; 2], 1000).text("no reading left"),

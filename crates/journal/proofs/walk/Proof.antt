@@ -1,7 +1,7 @@
 -- `journal::walk` meets its contract. The invariant: the checkpoints up to `at` are whole and sound, and seen and values are as they leave them (`Walking`).
 -- Assumes nothing.
 use mathlib.Core.Path.{refl, _∙_, ap}
-use Prim.Native.Nat.{ℕ, _+_, _-_}
+use Prim.Native.Nat.{ℕ, _+_, _-_, _*_}
 use native.Mathlib.Omega.{arith}
 use lib.ListN.{length}
 use borrow.Author.Needs.{needs}
@@ -15,10 +15,10 @@ use Rattle.journal.proofs.walk.Statement.{statement}
 use Rattle.journal.proofs.walk.Tie as tie
 
 abbrev Inv-loop : tie.InvT-loop
-Inv-loop l n table page seen₀ values₀ at₀ last₀ seen values at last = Walking (factsIn (formatOf page) n table) l at last seen values
+Inv-loop l n table page kind owner seen₀ values₀ at₀ last₀ own₀ seen values at last own = Walking (factsIn (formatOf page kind owner) n table) l at last own seen values
 
 abbrev μ-loop : tie.MeasureT-loop
-μ-loop l n table page seen₀ values₀ at₀ last₀ seen values at last = length l - at
+μ-loop l n table page kind owner seen₀ values₀ at₀ last₀ own₀ seen values at last own = length l - at
 
 loop-holds : tie.Need-loop-holds Inv-loop μ-loop
 loop-holds c = walking-first (c .before .pre .2) (blank 256 refl) (blank 256 refl)
@@ -39,7 +39,7 @@ tail-at-requires : tie.Need-tail-at-requires Inv-loop μ-loop
 tail-at-requires c κs =
     let p = c .before .records-end .ensures in
     let h = c .before .before .before .before .before .before .pre in
-    (p .most, h .0, h .1, p .no-more)
+    (p .most, h .0, h .1, p .no-more, h .4)
 
 enum-told : tie.Need-enum-told Inv-loop μ-loop
 enum-told c = search needs
@@ -50,64 +50,79 @@ add-commit-at c = omega (arith, c .before .before .before .before .records-end .
 
 commit-at-requires : tie.Need-commit-at-requires Inv-loop μ-loop
 commit-at-requires c κs =
-    omega (arith, walking-most (c .before .before .before .before .before .before .before .loop .inv) (c .before .before .before .before .records-end .ensures) (c .before .before .tail-at .ensures _) (c .enum-told .given .1))
+    let h = c .before .before .before .before .before .before .before .before .before .pre in
+    let m = walking-most (c .before .before .before .before .before .before .before .loop .inv) (c .before .before .before .before .records-end .ensures) (c .before .before .tail-at .ensures _ _) (c .enum-told .given .1) in
+    (omega (arith, m), h .0, h .4)
+
+own-too-requires : tie.Need-own-too-requires Inv-loop μ-loop
+own-too-requires c κs = search needs
+
+mul-end : tie.Need-mul-end Inv-loop μ-loop
+mul-end c = omega (arith, c .before .before .before .before .before .before .before .before .before .before .before .pre .4)
 
 add-end : tie.Need-add-end Inv-loop μ-loop
-add-end c =
-    let e = c .before in
-    omega (arith, e .before .before .before .before .records-end .ensures .most, e .before .before .before .before .before .before .before .before .before .pre .0)
+add-end c = omega (arith, c .before .before .before .before .before .before .before .before .before .before .before .pre .4)
+
+add-end-2 : tie.Need-add-end-2 Inv-loop μ-loop
+add-end-2 c =
+    let e = c .before .before in
+    let h = e .before .before .before .before .before .before .before .before .before .pre in
+    omega (arith, e .before .before .before .before .records-end .ensures .most, h .0, h .4)
 
 fill-requires : tie.Need-fill-requires Inv-loop μ-loop
-fill-requires c κs = c .before .before .before .before .before .before .before .before .before .before .pre .2
+fill-requires c κs = c .before .before .before .before .before .before .before .before .before .before .before .pre .2
 
 add-next : tie.Need-add-next Inv-loop μ-loop
 add-next c =
-    let e = c .before .before in
+    let e = c .before .before .before in
     let h = e .before .before .before .before .before .before .before .before .before .pre in
-    omega (arith, e .before .before .before .before .records-end .ensures .most, h .0, h .3, c .fill .ensures .1)
+    omega (arith, e .before .before .before .before .records-end .ensures .most, h .0, h .3, h .4, c .fill .ensures .1)
 
 is-erased-requires : tie.Need-is-erased-requires Inv-loop μ-loop
 is-erased-requires c κs =
-    let e = c .before .before in
+    let e = c .before .before .before in
     let h = e .before .before .before .before .before .before .before .before .before .pre in
-    omega (arith, e .before .before .before .before .records-end .ensures .most, h .0, h .3, c .fill .ensures .1)
+    omega (arith, e .before .before .before .before .records-end .ensures .most, h .0, h .3, h .4, c .fill .ensures .1)
 
 refused-requires : tie.Need-refused-requires Inv-loop μ-loop
 refused-requires c κs = search needs
 
 returns : tie.Need-returns Inv-loop μ-loop
 returns c =
-    let e = c .before .before .before .before .before in
+    let e = c .before .before .before .before .before .before in
     let w = e .before .before .before .before .before .before .before .loop .inv in
     let p = e .before .before .before .before .records-end in
     let h = e .before .before .before .before .before .before .before .before .before .pre in
+    let kind = e .before .before .before .before .before .before .before .before .before .args .kind in
     let d = c .before .before .is-erased in
     walk-damaged (c .refused .ensures)
-    (walking-filling w (p .ensures) (e .before .before .tail-at .ensures _) (e .enum-told .given .1) (e .before .before .before .before .before .before .loop-test .taken)
-    (ap (λ (k : ℕ). p .result + 14 + k) (c .before .before .before .fill .ensures .0 ∙ walking-fill w (p .ensures) (h .2)))
+    (walking-filling w (p .ensures) (e .before .before .tail-at .ensures _ _) (e .enum-told .given .1) (e .before .before .before .before .before .before .loop-test .taken)
+    (ap (λ (k : ℕ). p .result + (14 + 4 * kind) + k) (c .before .before .before .fill .ensures .0 ∙ walking-fill w (p .ensures) (h .2)))
     (decides-no (d .result) (not-true (d .result) (c .before .if1 .taken)) (d .ensures)))
 
 restore-requires : tie.Need-restore-requires Inv-loop μ-loop
 restore-requires c κs =
-    let e = c .before .before .before .before .before in
+    let e = c .before .before .before .before .before .before in
     let p = e .before .before .before .before .records-end .ensures in
     (p .most, e .before .before .before .before .before .before .before .before .before .pre .0, omega (arith, p .end-is), e .before .before .before .before .before .before .before .loop .inv .cells)
 
 loop-less : tie.Need-loop-less Inv-loop μ-loop
 loop-less c =
-    let e = c .before .before .before .before .before .before in
+    let e = c .before .before .before .before .before .before .before in
     omega (arith, e .before .before .before .before .records-end .ensures .end-is, e .before .before .before .before .before .before .loop-test .taken)
 
 loop-again : tie.Need-loop-again Inv-loop μ-loop
 loop-again c =
-    let e = c .before .before .before .before .before .before in
+    let e = c .before .before .before .before .before .before .before in
     let w = e .before .before .before .before .before .before .before .loop .inv in
     let p = e .before .before .before .before .records-end in
     let h = e .before .before .before .before .before .before .before .before .before .pre in
+    let kind = e .before .before .before .before .before .before .before .before .before .args .kind in
     let d = c .before .before .before .is-erased in
-    walking-turn w (p .ensures) (e .before .before .tail-at .ensures _) (e .enum-told .given .1) (h .1) (e .before .before .before .before .before .before .loop-test .taken) (h .2)
-    (ap (λ (k : ℕ). p .result + 14 + k) (c .before .before .before .before .fill .ensures .0 ∙ walking-fill w (p .ensures) (h .2)))
-    (decides-yes (d .result) (not-false (d .result) (c .before .before .if1 .left)) (d .ensures)) (c .restore .ensures) (c .before .before .before .before .before .commit-at .ensures)
+    walking-turn w (p .ensures) (e .before .before .tail-at .ensures _ _) (e .enum-told .given .1) (h .1) (e .before .before .before .before .before .before .loop-test .taken) (h .2)
+    (ap (λ (k : ℕ). p .result + (14 + 4 * kind) + k) (c .before .before .before .before .fill .ensures .0 ∙ walking-fill w (p .ensures) (h .2)))
+    (decides-yes (d .result) (not-false (d .result) (c .before .before .if1 .left)) (d .ensures)) (c .restore .ensures) (c .before .before .before .before .before .before .commit-at .ensures)
+    (c .before .before .before .before .before .own-too .ensures)
 
 enum-told-2 : tie.Need-enum-told-2 Inv-loop μ-loop
 enum-told-2 c = search needs
@@ -129,7 +144,7 @@ returns-2 c =
     let w = c .before .before .before .before .before .before .before .before .before .loop .inv in
     let p = c .before .before .before .before .before .before .records-end .ensures in
     walk-found (c .found .ensures)
-    (walking-cut w p (c .before .before .before .before .tail-at .ensures _) (c .before .before .enum-told2 .given .1) (ap (λ (k : ℕ). length (c .before .before .before .before .before .before .before .before .before .before .before .args .l .now) - c .before .before .before .before .before .before .before .before .before .loop .at + k) (c .before .fill2 .ensures .0)))
+    (walking-cut w p (c .before .before .before .before .tail-at .ensures (c .before .before .before .before .before .before .before .before .before .before .before .args .page) (c .before .before .before .before .before .before .before .before .before .before .before .args .owner)) (c .before .before .enum-told2 .given .1) (ap (λ (k : ℕ). length (c .before .before .before .before .before .before .before .before .before .before .before .args .l .now) - c .before .before .before .before .before .before .before .before .before .loop .at + k) (c .before .fill2 .ensures .0)))
 
 enum-told-3 : tie.Need-enum-told-3 Inv-loop μ-loop
 enum-told-3 c = search needs
@@ -142,7 +157,7 @@ returns-3 c =
     let w = c .before .before .before .before .before .before .before .before .loop .inv in
     let p = c .before .before .before .before .before .records-end .ensures in
     let test = c .before .before .before .before .before .before .before .loop-test .taken in
-    walk-damaged (c .refused2 .ensures) (walking-bad w p (c .before .before .before .tail-at .ensures _) (c .before .enum-told3 .given .1) test)
+    walk-damaged (c .refused2 .ensures) (walking-bad w p (c .before .before .before .tail-at .ensures _ _) (c .before .enum-told3 .given .1) test)
 
 found-requires-2 : tie.Need-found-requires-2 Inv-loop μ-loop
 found-requires-2 c κs = search needs
@@ -164,7 +179,10 @@ walk-spec =
     enum-told
     add-commit-at
     commit-at-requires
+    own-too-requires
+    mul-end
     add-end
+    add-end-2
     fill-requires
     add-next
     is-erased-requires

@@ -32,7 +32,7 @@ load32-requires-8 c κs = search needs
 returns : tie.Need-returns
 returns c =
     let d = c .before .before .before .before in
-    regs-loaded _ _ (d .before .before .before .load32 .ensures) (d .before .before .load322 .ensures) (d .before .load323 .ensures) (d .load324 .ensures)
+    regs-loaded _ _ _ (d .before .before .before .load32 .ensures) (d .before .before .load322 .ensures) (d .before .load323 .ensures) (d .load324 .ensures)
     (c .before .before .before .load325 .ensures) (c .before .before .load326 .ensures) (c .before .load327 .ensures) (c .load328 .ensures)
 
 pub load-regs-spec : {M : Type 1} → statement M

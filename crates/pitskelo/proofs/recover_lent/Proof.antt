@@ -19,6 +19,9 @@ word-count-requires c κs = search needs
 load-words-requires : tie.Need-load-words-requires
 load-words-requires c κs = search needs
 
+owner-of-requires : tie.Need-owner-of-requires
+owner-of-requires c κs = search needs
+
 load-state-requires : tie.Need-load-state-requires
 load-state-requires c κs = search needs
 
@@ -26,7 +29,7 @@ array-share-prefix-words : tie.Need-array-share-prefix-words
 array-share-prefix-words c = search needs
 
 slice-aggregate-recover-value : tie.Need-slice-aggregate-recover-value
-slice-aggregate-recover-value c = cut _ 512 _ (omega (arith, c .before .before .before .before .word-count .ensures)) (c .before .before .before .load-words .ensures .0)
+slice-aggregate-recover-value c = cut _ 512 _ (omega (arith, c .before .before .before .before .before .word-count .ensures)) (c .before .before .before .before .load-words .ensures .0)
 
 recover-value-requires : tie.Need-recover-value-requires
 recover-value-requires c κs = search needs
@@ -39,9 +42,8 @@ same-length c = search needs
 
 returns-2 : tie.Need-returns-2
 returns-2 c =
-    let r = c .before .before in
-    refused-recovery _ _ _ _ _ _ (r .before .before .before .before .before .before .if1 .left) (r .before .before .before .before .before .word-count .ensures) (r .before .before .before .before .load-words .ensures .1) (r .before .before .load-state .ensures)
-    (r .recover-value .ensures .recovers) (c .before .restored .ensures) (c .if2 .taken)
+    refused-recovery _ _ _ _ _ _ (c .before .before .before .before .before .before .before .before .before .if1 .left) (c .before .before .before .before .before .before .before .before .word-count .ensures) (c .before .before .before .before .before .before .before .load-words .ensures .1) (c .before .before .before .before .before .before .owner-of .ensures) (c .before .before .before .before .load-state .ensures)
+    (c .before .before .recover-value .ensures .recovers) (c .before .restored .ensures) (c .if2 .taken)
 
 store-state-requires : tie.Need-store-state-requires
 store-state-requires c κs = search needs
@@ -51,9 +53,8 @@ same-length-2 c = search needs
 
 returns-3 : tie.Need-returns-3
 returns-3 c =
-    let r = c .before .before .before .before .before .before .before in
-    done-recovery _ _ _ _ _ _ (r .before .before .before .before .before .before .if1 .left) (r .before .before .before .before .before .word-count .ensures) (r .before .before .before .before .load-words .ensures .1) (r .before .before .load-state .ensures)
-    (r .recover-value .ensures .recovers) (c .before .before .before .before .before .before .restored .ensures) (c .before .before .before .before .before .if2 .left) (c .before .before .store-state .ensures)
+    done-recovery _ _ _ _ _ _ (c .before .before .before .before .before .before .before .before .before .before .before .before .before .before .if1 .left) (c .before .before .before .before .before .before .before .before .before .before .before .before .before .word-count .ensures) (c .before .before .before .before .before .before .before .before .before .before .before .before .load-words .ensures .1) (c .before .before .before .before .before .before .before .before .before .before .before .owner-of .ensures) (c .before .before .before .before .before .before .before .before .before .load-state .ensures)
+    (c .before .before .before .before .before .before .before .recover-value .ensures .recovers) (c .before .before .before .before .before .before .restored .ensures) (c .before .before .before .before .before .if2 .left) (c .before .before .store-state .ensures)
 
 pub recover-lent-spec : {M : Type 1} → statement M
 recover-lent-spec =
@@ -63,6 +64,7 @@ recover-lent-spec =
     returns
     word-count-requires
     load-words-requires
+    owner-of-requires
     load-state-requires
     array-share-prefix-words
     slice-aggregate-recover-value

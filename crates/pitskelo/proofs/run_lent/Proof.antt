@@ -36,6 +36,9 @@ load-cells-requires c κs = search needs
 load-marks-requires : tie.Need-load-marks-requires
 load-marks-requires c κs = search needs
 
+owner-of-requires : tie.Need-owner-of-requires
+owner-of-requires c κs = search needs
+
 load-regs-requires : tie.Need-load-regs-requires
 load-regs-requires c κs = search needs
 
@@ -43,11 +46,11 @@ array-share-prefix-words : tie.Need-array-share-prefix-words
 array-share-prefix-words c = search needs
 
 slice-aggregate-run-all : tie.Need-slice-aggregate-run-all
-slice-aggregate-run-all c = cut _ 512 _ (omega (arith, c .before .before .before .before .before .before .before .before .before .word-count .ensures)) (c .before .before .before .before .before .before .before .before .load-words .ensures .0)
+slice-aggregate-run-all c = cut _ 512 _ (omega (arith, c .before .before .before .before .before .before .before .before .before .before .word-count .ensures)) (c .before .before .before .before .before .before .before .before .before .load-words .ensures .0)
 
 run-all-requires : tie.Need-run-all-requires
 run-all-requires c κs =
-    let plan = c .before .before .before .before .before .before .before .before .before .before .before .before .before .before .before .plan-refusal .ensures .accepted (c .before .before .before .before .before .before .before .before .before .before .before .before .before .before .if2 .left) in
+    let plan = c .before .before .before .before .before .before .before .before .before .before .before .before .before .before .before .before .plan-refusal .ensures .accepted (c .before .before .before .before .before .before .before .before .before .before .before .before .before .before .before .if2 .left) in
     (plan .0, plan .1, search needs, search needs)
 
 refusal-requires : tie.Need-refusal-requires
@@ -64,9 +67,8 @@ same-length-3 c = search needs
 
 returns-3 : tie.Need-returns-3
 returns-3 c =
-    let r = c .before .before .before .before .before .before in
-    refused-run _ _ (r .before .before .before .before .before .before .before .before .before .before .before .before .before .before .before .before .before .before .before .if1 .left) (r .before .before .before .before .before .before .before .before .before .before .before .before .before .before .word-count .ensures) (r .before .before .before .before .before .before .before .before .before .before .before .before .before .load-words .ensures .1)
-    (r .before .before .before .before .before .before .before .load-regs .ensures, r .before .before .before .before .before .before .before .before .before .before .before .load-cells .ensures, r .before .before .before .before .before .before .before .before .before .load-marks .ensures) (r .run-all .ensures .0) (c .before .refusal .ensures) (c .if3 .taken)
+    refused-run _ _ (c .before .before .before .before .before .before .before .before .before .before .before .before .before .before .before .before .before .before .before .before .before .before .before .before .before .before .if1 .left) (c .before .before .before .before .before .before .before .before .before .before .before .before .before .before .before .before .before .before .before .before .before .word-count .ensures) (c .before .before .before .before .before .before .before .before .before .before .before .before .before .before .before .before .before .before .before .before .load-words .ensures .1)
+    (c .before .before .before .before .before .before .before .before .before .before .before .before .before .before .owner-of .ensures) (c .before .before .before .before .before .before .before .before .before .before .before .before .before .load-regs .ensures, c .before .before .before .before .before .before .before .before .before .before .before .before .before .before .before .before .before .before .load-cells .ensures, c .before .before .before .before .before .before .before .before .before .before .before .before .before .before .before .before .load-marks .ensures) (c .before .before .before .before .before .before .run-all .ensures .0) (c .before .refusal .ensures) (c .if3 .taken)
 
 slice-aggregate-store-parts : tie.Need-slice-aggregate-store-parts
 slice-aggregate-store-parts c = sym (c .before .before .before .before .before .before .before .before .before .run-all .ensures .1)
@@ -77,7 +79,7 @@ slice-aggregate-store-parts-2 c = sym (c .before .before .before .before .before
 store-parts-requires : tie.Need-store-parts-requires
 store-parts-requires c κs =
     let sizes = c .before .before .before .before .before .before .before .before .before .before .run-all .ensures in
-    (c .before .before .before .before .before .before .before .before .before .before .before .before .before .before .before .before .before .before .before .before .before .before .before .before .before .before .before .before .before .if1 .left, sizes .1, sizes .2)
+    (c .before .before .before .before .before .before .before .before .before .before .before .before .before .before .before .before .before .before .before .before .before .before .before .before .before .before .before .before .before .before .if1 .left, sizes .1, sizes .2)
 
 kind-requires : tie.Need-kind-requires
 kind-requires c κs = search needs
@@ -93,9 +95,8 @@ same-length-6 c = search needs
 
 returns-4 : tie.Need-returns-4
 returns-4 c =
-    let r = c .before .before .before .before .before .before .before .before .before .before .before .before .before .before in
-    accepted-run _ _ (r .before .before .before .before .before .before .before .before .before .before .before .before .before .before .before .before .before .before .before .if1 .left) (r .before .before .before .before .before .before .before .before .before .before .before .before .before .before .word-count .ensures) (r .before .before .before .before .before .before .before .before .before .before .before .before .before .load-words .ensures .1)
-    (r .before .before .before .before .before .before .before .load-regs .ensures, r .before .before .before .before .before .before .before .before .before .before .before .load-cells .ensures, r .before .before .before .before .before .before .before .before .before .load-marks .ensures) (r .run-all .ensures .0) (c .before .before .before .before .before .before .before .before .before .refusal .ensures)
+    accepted-run _ _ (c .before .before .before .before .before .before .before .before .before .before .before .before .before .before .before .before .before .before .before .before .before .before .before .before .before .before .before .before .before .before .before .before .before .before .if1 .left) (c .before .before .before .before .before .before .before .before .before .before .before .before .before .before .before .before .before .before .before .before .before .before .before .before .before .before .before .before .before .word-count .ensures) (c .before .before .before .before .before .before .before .before .before .before .before .before .before .before .before .before .before .before .before .before .before .before .before .before .before .before .before .before .load-words .ensures .1)
+    (c .before .before .before .before .before .before .before .before .before .before .before .before .before .before .before .before .before .before .before .before .before .before .owner-of .ensures) (c .before .before .before .before .before .before .before .before .before .before .before .before .before .before .before .before .before .before .before .before .before .load-regs .ensures, c .before .before .before .before .before .before .before .before .before .before .before .before .before .before .before .before .before .before .before .before .before .before .before .before .before .before .load-cells .ensures, c .before .before .before .before .before .before .before .before .before .before .before .before .before .before .before .before .before .before .before .before .before .before .before .before .load-marks .ensures) (c .before .before .before .before .before .before .before .before .before .before .before .before .before .before .run-all .ensures .0) (c .before .before .before .before .before .before .before .before .before .refusal .ensures)
     (c .before .before .before .before .before .before .before .before .if3 .left) (c .before .before .before .store-parts .ensures) (c .kind .ensures)
 
 pub run-lent-spec : {M : Type 1} → statement M
@@ -111,6 +112,7 @@ run-lent-spec =
     load-words-requires
     load-cells-requires
     load-marks-requires
+    owner-of-requires
     load-regs-requires
     array-share-prefix-words
     slice-aggregate-run-all

@@ -31,11 +31,11 @@ recover-legal-requires c κs =
 
 returns : tie.Need-returns
 returns c =
-    recover-is _ _ _ _
-    (rw (c .refused .ensures) (refused-program _ _ _ _ (rw (c .before .before .number .given .1) at (c .before .before .before .before .examine .ensures .checks))))
+    recover-is _ _ _ _ _
+    (rw (c .refused .ensures) (refused-program _ _ _ _ _ (rw (c .before .before .number .given .1) at (c .before .before .before .before .examine .ensures .checks))))
 
 returns-2 : tie.Need-returns-2
-returns-2 c = recover-is _ _ _ _ (c .recover-legal .ensures)
+returns-2 c = recover-is _ _ _ _ _ (c .recover-legal .ensures)
 
 pub recover-value-spec : {M : Type 1} → statement M
 recover-value-spec =

@@ -15,8 +15,11 @@ stored-cells-requires c κs = search needs
 cast-fits : tie.Need-cast-fits
 cast-fits c = search needs
 
+kind-of-requires : tie.Need-kind-of-requires
+kind-of-requires c κs = search needs
+
 fits-requires : tie.Need-fits-requires
-fits-requires c κs = search needs
+fits-requires c κs = let h = c .before .before .before .before .before .before .pre in (h .3, h .4, c .kind-of .ensures .1)
 
 cast-after : tie.Need-cast-after
 cast-after c = search needs
@@ -26,13 +29,13 @@ after-requires c κs = search needs
 
 returns : tie.Need-returns
 returns c v ws xs =
-    begins _ ws v _ xs _ _ (c .before .before .before .before .before .before .before .pre .1)
-    (sym (fits-same _ _ xs _ _ (c .before .before .before .before .cell-count .ensures .0) (c .before .before .before .stored-cells .ensures) (c .before .fits2 .ensures)) ∙ c .if1 .taken)
+    begins _ ws v _ xs _ _ (c .before .before .before .before .before .before .before .before .pre .1)
+    (sym (fits-same _ _ xs _ _ (c .before .before .before .before .before .cell-count .ensures .0) (c .before .before .before .before .stored-cells .ensures) (c .before .before .kind-of .ensures .0) (c .before .fits2 .ensures)) ∙ c .if1 .taken)
 
 returns-2 : tie.Need-returns-2
 returns-2 c v ws xs =
-    passes _ ws v _ xs _ _ (c .before .before .before .before .before .before .before .before .before .pre .1) (c .before .before .before .before .before .before .before .before .before .pre .2)
-    (sym (fits-same _ _ xs _ _ (c .before .before .before .before .before .before .cell-count .ensures .0) (c .before .before .before .before .before .stored-cells .ensures) (c .before .before .before .fits2 .ensures)) ∙ c .before .before .if1 .left)
+    passes _ ws v _ xs _ _ (c .before .before .before .before .before .before .before .before .before .before .pre .1) (c .before .before .before .before .before .before .before .before .before .before .pre .2)
+    (sym (fits-same _ _ xs _ _ (c .before .before .before .before .before .before .before .cell-count .ensures .0) (c .before .before .before .before .before .before .stored-cells .ensures) (c .before .before .before .before .kind-of .ensures .0) (c .before .before .before .fits2 .ensures)) ∙ c .before .before .if1 .left)
     (c .after .ensures)
 
 pub begin-save-spec : {M : Type 1} → statement M
@@ -42,6 +45,7 @@ begin-save-spec =
     cell-count-requires
     stored-cells-requires
     cast-fits
+    kind-of-requires
     fits-requires
     returns
     cast-after

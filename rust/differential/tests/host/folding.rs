@@ -1,14 +1,19 @@
 //! The fold tool: killed and started again it folds the host's chip all the same, and the host goes
-//! on with the new chip and loses no output. Tools with mistakes are caught.
+//! on with the new chip and loses no output, also where the old chip has the marks until request Q-8,
+//! which the host refuses. Tools with mistakes are caught.
 
 use std::path::Path;
 use std::time::Duration;
 
 use claim::folds::found_number;
+use claim::marks::remarked;
+use differential::call::sets_of;
 use differential::examples::{mean, SMALL};
 use differential::folds::save_of;
 use differential::rng::Rng;
-use reference::journal::{BYTE_CHIP, ERASED, MAX_CHIP};
+use reference::journal::{owner, read_as, Kind, BYTE_CHIP, ERASED, MAX_CHIP};
+use reference::machine::State;
+use reference::Machine;
 
 use crate::board::{Board, Cut, End};
 use crate::building::{cut_fold_tool, cut_host, fold_tool, folder, host, Edit};
@@ -55,7 +60,7 @@ const MISTAKES: [Edit; 3] = [
 /// A board for the small plan with room for two of its three saves. The value of the last two has
 /// FF bytes.
 fn small_board(host: &Path, folder: &Path) -> (Board, Vec<i32>) {
-    let board = Board::new(host, folder, SMALL, &[5, -7, -2], 50, BYTE_CHIP);
+    let board = Board::new(host, folder, SMALL, &READINGS, 50, BYTE_CHIP);
     (board, vec![5, -2, -4])
 }
 
@@ -177,6 +182,66 @@ fn cut_everywhere_the_fold_goes_on_and_so_does_the_host() {
     }
 }
 
+/// The readings of the small board.
+const READINGS: [i32; 3] = [5, -7, -2];
+
+/// The chip of the small board, as the reference until Q-8 leaves it after so many steps, and how many
+/// outputs it has given.
+fn old_chip(steps: u64) -> (Vec<u8>, usize) {
+    let (sets, mut chip) = (sets_of(SMALL), blank(50));
+    let mut state = State::first();
+    let machine = Machine::of_kind(SMALL, &sets, BYTE_CHIP, Kind::A2);
+    let ran = machine.and_then(|machine| machine.run(&mut chip, &mut state, &READINGS, 9, steps));
+    let given = ran.expect("the first state is sound").given.len();
+    (chip, given)
+}
+
+/// What the host says of a chip that the reference until Q-8 left, unless it goes on with it.
+fn told_of_old(chip: &[u8]) -> Option<&'static str> {
+    let held = read_as(SMALL, chip, BYTE_CHIP, Kind::A2).expect("a run leaves a sound chip");
+    let is_a3 = read_as(SMALL, chip, BYTE_CHIP, Kind::A3).is_ok();
+    match (is_a3, held.saves.is_empty()) {
+        (true, _) => None,
+        (false, true) => Some("host: recover: refused 12\n"),
+        (false, false) => Some(
+            "host: the chip has old marks: fold it onto a blank one\nhost: recover: refused 15\n",
+        ),
+    }
+}
+
+/// The small plan on an old chip after each step: the host refuses it, the tool folds it with a cut
+/// before every byte, and the host goes on with the new one.
+#[test]
+fn an_old_chip_is_refused_folded_and_goes_on() {
+    let folder = folder("fold-old-marks");
+    let (host, tool) = (host(&folder), cut_fold_tool(&folder, 1, None));
+    let (board, expected) = small_board(&host, &folder);
+    // SET, for each reading four commands, CHECKPOINT and JUMP, and the 20 bytes of two saves.
+    let [mut refused, mut damaged, mut within] = [0; 3];
+    for steps in 0..=1 + 3 * 6 + 2 * 20 {
+        let (chip, given) = old_chip(steps);
+        let trial = Trial::on_chip(&board, &expected, &chip, given);
+        let Some(told) = told_of_old(&chip) else {
+            continue;
+        };
+        let life = board.start(0, Cut::Never);
+        let failed = End::Failed(format!("exit status: 1: {told}"));
+        assert_eq!((life.outputs.len(), life.end), (0, failed), "{steps} steps");
+        assert_eq!(board.chip(), chip);
+        refused += usize::from(told.ends_with("15\n"));
+        damaged += usize::from(told.ends_with("12\n"));
+        for cut in 1..=save_of(SMALL, &chip).len() + 1 {
+            board.set_chip(&chip);
+            let cuts = [Cut::Before(cut)];
+            within += folded_once(trial.clone(), &board, &tool, &cuts).unwrap();
+        }
+    }
+    println!("{refused} chips with old marks, {damaged} with a torn one alone, {within} cuts");
+    // The first save is torn within its mark after 7 to 19 bytes, and whole after all later steps.
+    assert_eq!((damaged, refused), (13, 1 + 3 * 6 + 2 * 20 - (5 + 1 + 19)));
+    assert!(within >= 500);
+}
+
 #[test]
 fn mistakes_of_the_fold_tool_are_caught_by_some_cut() {
     for edit in &MISTAKES {
@@ -270,7 +335,11 @@ fn what_a_fold_is_refused_for_is_told_and_both_chips_stay() {
     };
     board.start(0, Cut::Never);
     let old = board.chip();
-    refused(&board, &old, &blank(19), "fold: refused 14");
+    let other = remarked(SMALL, &old, BYTE_CHIP, |_, _| Some(owner(SMALL) + 1));
+    let other = other.expect("the chip has saves");
+    let told = "the chip belongs to another plan\nfold: fold: refused 16";
+    refused(&board, &other, &blank(30), told);
+    refused(&board, &old, &blank(23), "fold: refused 14");
     refused(&board, &old, &[0x00; 30], "fold: refused 13");
     refused(&board, &[0x00, ERASED], &blank(30), "fold: refused 12");
     refused(&board, &blank(MAX_CHIP + 1), &blank(30), "fold: refused 11");

@@ -12,9 +12,10 @@ use std::time::Duration;
 
 use board::{Board, Cut, End};
 use building::{cut_host, folder, host, host_with, Edit};
+use claim::marks::{remarked, with_a2};
 use differential::examples::{mean, programs, SMALL};
 use differential::rng::Rng;
-use reference::journal::{BYTE_CHIP, PAGE_CHIP};
+use reference::journal::{owner, BYTE_CHIP, PAGE_CHIP};
 use trial::{cut_everywhere, killed_at_random, longest_life, Counts};
 
 /// The kinds of chip, by their page length.
@@ -111,7 +112,7 @@ fn mean_board(host: &Path, folder: &Path, page: usize) -> (Board, Vec<i32>) {
 
 /// Document 01's small plan with its three readings, on a chip that holds its three saves.
 fn small_board(host: &Path, folder: &Path, page: usize) -> (Board, Vec<i32>) {
-    let chip_len = 3 * 20_usize.next_multiple_of(page);
+    let chip_len = 3 * 24_usize.next_multiple_of(page);
     let board = Board::new(host, folder, SMALL, &[5, 7, -2], chip_len, page);
     (board, vec![5, 12, 10])
 }
@@ -180,6 +181,42 @@ fn what_is_refused_is_told_and_the_chip_stays() {
         refused(&board, "recover: refused 11");
         let too_long = Board::new(&host, &folder, &[0x01; 2_049], &[], 60, page);
         refused(&too_long, "analyse: refused 1");
+    }
+}
+
+#[test]
+fn what_is_to_be_done_with_a_chip_of_old_marks_or_another_plans_is_told() {
+    let folder = folder("host-owners");
+    let host = host(&folder);
+    for (page, old) in [
+        (
+            BYTE_CHIP,
+            "the chip has old marks: fold it onto a blank one",
+        ),
+        (
+            PAGE_CHIP,
+            "the chip has old marks: no page chip is folded, erase it",
+        ),
+    ] {
+        let (board, _) = small_board(&host, &folder, page);
+        board.start(0, Cut::Never);
+        let own = board.chip();
+        let with_a2 = with_a2(SMALL, &own, page).expect("the chip has saves");
+        let other = |_, _| Some(owner(SMALL) + 1);
+        let other = remarked(SMALL, &own, page, other).expect("the chip has saves");
+        for (chip, told) in [
+            (with_a2, format!("host: {old}\nhost: recover: refused 15\n")),
+            (
+                other,
+                "host: the chip belongs to another plan\nhost: recover: refused 16\n".into(),
+            ),
+        ] {
+            board.set_chip(&chip);
+            let life = board.start(0, Cut::Never);
+            let told = format!("exit status: 1: {told}");
+            assert_eq!((life.outputs.len(), life.end), (0, End::Failed(told)));
+            assert_eq!(board.chip(), chip);
+        }
     }
 }
 

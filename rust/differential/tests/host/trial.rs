@@ -58,6 +58,14 @@ impl<'a> Trial<'a> {
         }
     }
 
+    /// Goes on with a chip, when so many outputs were handed on.
+    pub fn on_chip(board: &'a Board, expected: &'a [i32], chip: &[u8], given: usize) -> Self {
+        let mut trial = Trial::new(board, expected);
+        board.set_chip(chip);
+        trial.next = given;
+        trial
+    }
+
     /// Starts the host once more, and gives whether it ended by itself with all outputs printed. What is
     /// wrong is an error.
     pub fn live(&mut self, pause: u32, cut: Cut) -> Result<bool, String> {

@@ -25,13 +25,20 @@ add-load32-2 c = search needs
 load32-requires-2 : tie.Need-load32-requires-2
 load32-requires-2 c κs = search needs
 
+add-owner-at : tie.Need-add-owner-at
+add-owner-at c = search needs
+
+owner-at-requires : tie.Need-owner-at-requires
+owner-at-requires c κs = search needs
+
 returns : tie.Need-returns
 returns c =
-    let place = c .before .before .before .load16 .ensures in
-    let exclude = c .before .before .load162 .ensures in
-    let readings = c .before .load32 .ensures in
-    let outputs = c .load322 .ensures in
-    λ i. record { place = place i; exclude = exclude i; readings = readings i; outputs = outputs i }
+    let place = c .before .before .before .before .load16 .ensures in
+    let exclude = c .before .before .before .load162 .ensures in
+    let readings = c .before .before .load32 .ensures in
+    let outputs = c .before .load322 .ensures in
+    let owner = c .owner-at .ensures in
+    λ i. record { place = place i; exclude = exclude i; readings = readings i; outputs = outputs i; owner = owner i }
 
 pub commit-at-spec : {M : Type 1} → statement M
 commit-at-spec =
@@ -44,4 +51,6 @@ commit-at-spec =
     load32-requires
     add-load32-2
     load32-requires-2
+    add-owner-at
+    owner-at-requires
     returns)

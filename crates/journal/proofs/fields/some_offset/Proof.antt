@@ -12,7 +12,7 @@ use Rattle.journal.proofs.fields.some_offset.Statement.{statement}
 use Rattle.journal.proofs.fields.some_offset.Tie as tie
 
 abbrev Inv-loop : tie.InvT-loop
-Inv-loop table excludes low step t₀ t = Searched (offsetIn (factsIn (formatOf 1) 0 table) excludes) low step t
+Inv-loop table excludes low step t₀ t = Searched (offsetIn (factsIn (formatOf 1 0 0) 0 table) excludes) low step t
 
 abbrev μ-loop : tie.MeasureT-loop
 μ-loop table excludes low step t₀ t = 2048 - t
@@ -27,7 +27,7 @@ returns : tie.Need-returns Inv-loop μ-loop
 returns c G n =
     let s = c .before .before .before .before in
     searched-found G n (s .args .table .now) _ _ _ _ (c .before .before .before .loop .inv) (s .pre .0) (c .before .before .loop-test .taken)
-    (sym (c .before .offset-is .ensures (formatOf 1) 0) ∙ c .if1 .taken)
+    (sym (c .before .offset-is .ensures (formatOf 1 0 0) 0) ∙ c .if1 .taken)
 
 add-t : tie.Need-add-t Inv-loop μ-loop
 add-t c = omega arith
@@ -36,7 +36,7 @@ loop-less : tie.Need-loop-less Inv-loop μ-loop
 loop-less c = omega arith
 
 loop-again : tie.Need-loop-again Inv-loop μ-loop
-loop-again c = searched-turn _ _ _ _ (c .before .before .before .loop .inv) (sym (c .before .offset-is .ensures (formatOf 1) 0) ∙ c .if1 .left)
+loop-again c = searched-turn _ _ _ _ (c .before .before .before .loop .inv) (sym (c .before .offset-is .ensures (formatOf 1 0 0) 0) ∙ c .if1 .left)
 
 returns-2 : tie.Need-returns-2 Inv-loop μ-loop
 returns-2 c G n = searched-done G n (c .before .before .args .table .now) _ _ _ _ (c .before .loop .inv) (c .loop-test .left)

@@ -9,15 +9,15 @@ use Rattle.journal.proofs.writing.fits.Statement.{statement}
 use Rattle.journal.proofs.writing.fits.Tie as tie
 
 returns : tie.Need-returns
-returns c values d = no-room _ _ _ (c .if1 .taken)
+returns c owner values d = no-room _ _ _ (c .if1 .taken)
 
 size-requires : tie.Need-size-requires
 size-requires c κs = search needs
 
 returns-2 : tie.Need-returns-2
-returns-2 c values d =
+returns-2 c owner values d =
     let s = c .before .before .args in
-    room _ (s .at) (s .len) (c .before .if1 .left) ∙ ap (λ (n : ℕ). leb (s .at + n) (s .len)) (c .size .ensures values d)
+    room _ (s .at) (s .len) (c .before .if1 .left) ∙ ap (λ (n : ℕ). leb (s .at + n) (s .len)) (c .size .ensures owner values d)
 
 pub fits-spec : {M : Type 1} → statement M
 fits-spec = tie.close (tie.spec returns size-requires returns-2)

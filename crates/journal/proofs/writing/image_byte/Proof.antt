@@ -1,6 +1,7 @@
 -- `journal::writing::image_byte` meets its contract: the byte is one of a record, or one of the commit, or filling.
 -- Assumes nothing.
 use native.Mathlib.Omega.{arith}
+use Rattle.journal.specs.Format.{formatOf}
 use Rattle.journal.proofs.Written.{image-record, image-commit, image-past}
 use borrow.Author.Needs.{needs}
 use Rattle.journal.proofs.writing.image_byte.Statement.{statement}
@@ -15,23 +16,25 @@ cast-records c = search needs
 mul-records : tie.Need-mul-records
 mul-records c = search needs
 
+mul-if1 : tie.Need-mul-if1
+mul-if1 c = search needs
+
 add-if1 : tie.Need-add-if1
 add-if1 c = search needs
 
+add-if1-2 : tie.Need-add-if1-2
+add-if1-2 c = search needs
+
 returns : tie.Need-returns
-returns c =
-    let s = c .before .before .args in
-    image-past (s .s .words) (s .values .now) (s .c) (s .k) (c .before .count .ensures) (c .if1 .taken)
+returns c page owner = image-past (formatOf page (c .before .before .args .kind) owner) (c .before .before .args .s .words) (c .before .before .args .values .now) (c .before .before .args .c) (c .before .before .args .k) (c .before .count .ensures) (c .if1 .taken)
 
 commit-byte-requires : tie.Need-commit-byte-requires
 commit-byte-requires c κs = search needs
 
 returns-2 : tie.Need-returns-2
-returns-2 c =
-    let at-count = c .before .before .before in
-    let s = at-count .before .args in
-    image-commit (s .s .words) (s .values .now) (s .c) (at-count .count .result) (s .k) (c .commit-byte .result)
-    (at-count .count .ensures) (c .before .if2 .taken) (omega (arith, c .before .before .if1 .left)) (c .commit-byte .ensures)
+returns-2 c page owner =
+    image-commit (formatOf page (c .before .before .before .before .args .kind) owner) (c .before .before .before .before .args .s .words) (c .before .before .before .before .args .values .now) (c .before .before .before .before .args .c) (c .before .before .before .count .result) (c .before .before .before .before .args .k) (c .commit-byte .result)
+    (c .before .before .before .count .ensures) (c .before .if2 .taken) (omega (arith, c .before .before .if1 .left)) (c .commit-byte .ensures page owner)
 
 cast-nth : tie.Need-cast-nth
 cast-nth c = search needs
@@ -52,12 +55,9 @@ record-byte-requires : tie.Need-record-byte-requires
 record-byte-requires c κs = search needs
 
 returns-3 : tie.Need-returns-3
-returns-3 c =
-    let at-nth = c .before .before in
-    let at-count = at-nth .before .before .before in
-    let s = at-count .before .args in
-    image-record (s .s .words) (s .values .now) (s .c) (at-count .count .result) (s .k) (c .record-byte .result)
-    (at-count .count .ensures) (at-nth .nth .result) (at-nth .before .if2 .left) (at-nth .nth .ensures) (c .record-byte .ensures)
+returns-3 c page owner =
+    image-record (formatOf page (c .before .before .before .before .before .before .args .kind) owner) (c .before .before .before .before .before .before .args .s .words) (c .before .before .before .before .before .before .args .values .now) (c .before .before .before .before .before .before .args .c) (c .before .before .before .before .before .count .result) (c .before .before .before .before .before .before .args .k) (c .record-byte .result)
+    (c .before .before .before .before .before .count .ensures) (c .before .before .nth .result) (c .before .before .before .if2 .left) (c .before .before .nth .ensures) (c .record-byte .ensures)
 
 pub image-byte-spec : {M : Type 1} → statement M
 image-byte-spec =
@@ -66,7 +66,9 @@ image-byte-spec =
     count-requires
     cast-records
     mul-records
+    mul-if1
     add-if1
+    add-if1-2
     returns
     commit-byte-requires
     returns-2

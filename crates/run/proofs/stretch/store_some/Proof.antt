@@ -92,7 +92,7 @@ copy-requires c κs =
     let e = fitting (c .before .before .before .before .before .before .before) (c .before .before .before .before .before .count-pages2 .ensures) (c .before .before .before .least .ensures) in (
       omega (arith, f .room, e),
       omega (arith, f .begun, f .most, e),
-      filled-length (a .p .now) (a .b .regs) (a .cells .now) (a .marks .now) (a .journal .now) (replicate 1568 0) (length-replicate {A = ℕ} 1568 0)
+      filled-length (a .p .now) (a .b .regs) (a .cells .now) (a .marks .now) (a .journal .now) (replicate 1584 0) (length-replicate {A = ℕ} 1584 0)
           (c .before .before .before .before .before .before .before .make .ensures .1 (a .journal .now) .1),
       f .small,
     )
@@ -124,8 +124,8 @@ returns-4 : tie.Need-returns-4
 returns-4 c =
     let made = c .before .before .before .before .before .before .before .before .before .before .before .before .before in
     let a = c .before .before .before .before .before .before .before .before .before .before .before .before .before .before .before .before .before .before .before .before .before .before .before .before .before .before .args in
-    store-is (a .p .now) (a .budget) (a .b) (a .cells .now) (a .marks .now) (a .journal .now) (replicate 1568 0) (c .before .before .before .before .before .before .before .before .before .least .result)
-    (facts made) (c .before .before .before .before .before .before .before .before .before .before .before .before .before .before .before .before .before .before .before .before .before .before .before .before .before .before .pre .0) (c .before .before .before .before .before .before .before .before .before .before .before .before .before .before .before .before .before .before .before .before .before .before .before .before .before .before .pre .2) (least-pages (made .make .result - (a .b .regs .saving - 1)) (a .b .regs .page) (a .budget - a .b .steps) (c .before .before .before .before .before .before .before .before .before .before .before .count-pages2 .ensures) (c .before .before .before .before .before .before .before .before .before .least .ensures)) (length-replicate {A = ℕ} 1568 0) (made .make .ensures .1 (a .journal .now) .1)
+    store-is (a .p .now) (a .budget) (a .b) (a .cells .now) (a .marks .now) (a .journal .now) (replicate 1584 0) (c .before .before .before .before .before .before .before .before .before .least .result)
+    (facts made) (c .before .before .before .before .before .before .before .before .before .before .before .before .before .before .before .before .before .before .before .before .before .before .before .before .before .before .pre .0) (c .before .before .before .before .before .before .before .before .before .before .before .before .before .before .before .before .before .before .before .before .before .before .before .before .before .before .pre .2) (least-pages (made .make .result - (a .b .regs .saving - 1)) (a .b .regs .page) (a .budget - a .b .steps) (c .before .before .before .before .before .before .before .before .before .before .before .count-pages2 .ensures) (c .before .before .before .before .before .before .before .before .before .least .ensures)) (length-replicate {A = ℕ} 1584 0) (made .make .ensures .1 (a .journal .now) .1)
     (c .before .before .before .before .before .copy .ensures) (c .before .stored .ensures)
     (⊎-elim
     (λ came. marks-whole (a .p .now) (a .marks .now) (came .0 .taken) (came .2 .ensures .0) (came .4 ∙ came .3 .ensures))

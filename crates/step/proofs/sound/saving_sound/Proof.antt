@@ -45,8 +45,11 @@ add-stored-cells c = omega (arith, c .shared-slice-known3 .given 0)
 stored-cells-requires : tie.Need-stored-cells-requires
 stored-cells-requires c κs = search needs
 
+kind-of-requires : tie.Need-kind-of-requires
+kind-of-requires c κs = search needs
+
 size-requires : tie.Need-size-requires
-size-requires c κs = search needs
+size-requires c κs = let h = c .before .before .before .before .before .before .before .before .before .before .before .pre in (h .1, h .2, c .kind-of .ensures .1)
 
 cast-stored : tie.Need-cast-stored
 cast-stored c = search needs
@@ -56,20 +59,20 @@ sub-stored c = search needs
 
 returns-4 : tie.Need-returns-4
 returns-4 c l e =
-    let a = c .before .before .before .before .before .before .before .before .before .before .before .before .before .args in
+    let a = c .before .before .before .before .before .before .before .before .before .before .before .before .before .before .args in
     let m = machineOf (a .r) (a .cells .now) (a .marks .now) l in
-    saving-over (a .p .now) m (c .before .before .before .before .before .before .before .before .before .before .if1 .left) (c .before .before .before .before .before .before .before .if2 .left) (c .before .before .before .before .before .if3 .left) (size-is (a .p .now) m (c .before .before .before .stored-cells .ensures) (c .before .before .size .ensures)) (c .if4 .taken)
+    saving-over (a .p .now) m (c .before .before .before .before .before .before .before .before .before .before .before .if1 .left) (c .before .before .before .before .before .before .before .before .if2 .left) (c .before .before .before .before .before .before .if3 .left) (size-is (a .p .now) m (c .before .before .before .kind-of .ensures .0) (c .before .before .before .before .stored-cells .ensures) (c .before .before .size .ensures)) (c .if4 .taken)
 
 is-whole-requires : tie.Need-is-whole-requires
 is-whole-requires c κs = search needs
 
 returns-5 : tie.Need-returns-5
 returns-5 c l e =
-    let a = c .before .before .before .before .before .before .before .before .before .before .before .before .before .before .before .args in
+    let a = c .before .before .before .before .before .before .before .before .before .before .before .before .before .before .before .before .args in
     let m = machineOf (a .r) (a .cells .now) (a .marks .now) l in
     let w = c .before .is-whole in
-    let size = size-is (a .p .now) m (c .before .before .before .before .before .stored-cells .ensures) (c .before .before .before .before .size .ensures) in
-    saving-apart (a .p .now) m (c .before .before .before .before .before .before .before .before .before .before .before .before .if1 .left) (c .before .before .before .before .before .before .before .before .before .if2 .left) (c .before .before .before .before .before .before .before .if3 .left) size (c .before .before .if4 .left) (sym (w .ensures) ∙ not-true (w .result) (c .if5 .taken))
+    let size = size-is (a .p .now) m (c .before .before .before .before .before .kind-of .ensures .0) (c .before .before .before .before .before .before .stored-cells .ensures) (c .before .before .before .before .size .ensures) in
+    saving-apart (a .p .now) m (c .before .before .before .before .before .before .before .before .before .before .before .before .before .if1 .left) (c .before .before .before .before .before .before .before .before .before .before .if2 .left) (c .before .before .before .before .before .before .before .before .if3 .left) size (c .before .before .if4 .left) (sym (w .ensures) ∙ not-true (w .result) (c .if5 .taken))
 
 cast-result : tie.Need-cast-result
 cast-result c = search needs
@@ -78,15 +81,15 @@ sub-result : tie.Need-sub-result
 sub-result c = search needs
 
 add-result : tie.Need-add-result
-add-result c = omega (arith, size-most _ (c .before .before .before .before .before .size .ensures) (c .before .before .before .before .before .before .before .before .before .before .before .before .before .before .before .before .pre .1) (c .before .before .before .before .before .before .before .before .before .before .before .before .before .before .before .before .pre .2))
+add-result c = omega (arith, size-most _ (c .before .before .before .before .before .size .ensures) (c .before .before .before .before .before .before .before .before .before .before .before .before .before .before .before .before .before .pre .1) (c .before .before .before .before .before .before .before .before .before .before .before .before .before .before .before .before .before .pre .2) (c .before .before .before .before .before .before .kind-of .ensures .1))
 
 returns-6 : tie.Need-returns-6
 returns-6 c l e =
-    let a = c .before .before .before .before .before .before .before .before .before .before .before .before .before .before .before .before .args in
+    let a = c .before .before .before .before .before .before .before .before .before .before .before .before .before .before .before .before .before .args in
     let m = machineOf (a .r) (a .cells .now) (a .marks .now) l in
     let w = c .before .before .is-whole in
-    let size = size-is (a .p .now) m (c .before .before .before .before .before .before .stored-cells .ensures) (c .before .before .before .before .before .size .ensures) in
-    saving-fits (a .p .now) m (c .before .before .before .before .before .before .before .before .before .before .before .before .before .if1 .left) (c .before .before .before .before .before .before .before .before .before .before .if2 .left) (c .before .before .before .before .before .before .before .before .if3 .left) size (c .before .before .before .if4 .left) (sym (w .ensures) ∙ not-false (w .result) (c .before .if5 .left)) e
+    let size = size-is (a .p .now) m (c .before .before .before .before .before .before .kind-of .ensures .0) (c .before .before .before .before .before .before .before .stored-cells .ensures) (c .before .before .before .before .before .size .ensures) in
+    saving-fits (a .p .now) m (c .before .before .before .before .before .before .before .before .before .before .before .before .before .before .if1 .left) (c .before .before .before .before .before .before .before .before .before .before .before .if2 .left) (c .before .before .before .before .before .before .before .before .before .if3 .left) size (c .before .before .before .if4 .left) (sym (w .ensures) ∙ not-false (w .result) (c .before .if5 .left)) e
 
 pub saving-sound-spec : {M : Type 1} → statement M
 saving-sound-spec =
@@ -101,6 +104,7 @@ saving-sound-spec =
     cast-stored-cells
     add-stored-cells
     stored-cells-requires
+    kind-of-requires
     size-requires
     cast-stored
     sub-stored

@@ -1,4 +1,4 @@
--- `altered` is safe: each byte that it replaces is one of the chip's 40.
+-- `altered` is safe: each byte that it replaces is one of the chip's 48.
 -- Assumes nothing.
 use Prim.Native.Nat.{_-_, _≤_}
 use mathlib.Core.Path.{_≡_}
@@ -8,10 +8,10 @@ use Rattle.vectors.proofs.journals.altered.Statement.{statement}
 use Rattle.vectors.proofs.journals.altered.Tie as tie
 
 abbrev Inv-loop : tie.InvT-loop
-Inv-loop name byte saves chip₀ k₀ chip k = (k ≤ 40) × (length chip ≡ 40)
+Inv-loop name byte saves chip₀ k₀ chip k = (k ≤ 48) × (length chip ≡ 48)
 
 abbrev μ-loop : tie.MeasureT-loop
-μ-loop name byte saves chip₀ k₀ chip k = 40 - k
+μ-loop name byte saves chip₀ k₀ chip k = 48 - k
 
 loop-holds : tie.Need-loop-holds Inv-loop μ-loop
 loop-holds c = search needs

@@ -1,4 +1,4 @@
--- `stored` is safe: each byte that it stores is one of the 40 and within the chip.
+-- `stored` is safe: each byte that it stores is one of the 48 and within the chip.
 -- Assumes nothing.
 use Prim.Native.Nat.{_-_, _≤_}
 use mathlib.Core.Path.{_≡_}
@@ -8,10 +8,10 @@ use Rattle.vectors.proofs.journals.stored.Statement.{statement}
 use Rattle.vectors.proofs.journals.stored.Tie as tie
 
 abbrev Inv-loop : tie.InvT-loop
-Inv-loop saves chip₀ k₀ t5 t6 chip k = (k ≤ 40) × (length chip ≡ 48)
+Inv-loop saves chip₀ k₀ t5 t6 chip k = (k ≤ 48) × (length chip ≡ 56)
 
 abbrev μ-loop : tie.MeasureT-loop
-μ-loop saves chip₀ k₀ t5 t6 chip k = 40 - k
+μ-loop saves chip₀ k₀ t5 t6 chip k = 48 - k
 
 loop-holds : tie.Need-loop-holds Inv-loop μ-loop
 loop-holds c = search needs
