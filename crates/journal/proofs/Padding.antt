@@ -4,12 +4,14 @@
 use mathlib.Core.Path.{_≡_, refl, sym, _∙_, ap}
 use mathlib.Core.List.{List, [], _∷_, _++_, append-nil}
 use mathlib.Core.Logic.{⊎-elim}
-use Prim.Native.Nat.{ℕ, zero, suc, _+_, _-_, _<_, _≤_}
+use Prim.Native.Nat.{ℕ, zero, suc, _+_, _*_, _-_, _<_, _≤_}
 use native.Mathlib.Omega.{arith}
 use lib.ListN.{length, drop, getD, replicate, drop-of-length-le, length-replicate, getD-replicate, List·getD-append, List·getD-eq-default}
 use lib.Seq.{drop-cons, getD-drop}
+use Rattle.word.specs.Bytes.{loadOf}
 use Rattle.cellset.proofs.Bits.{le-or-lt}
 use Rattle.journal.specs.Parts.{byteAt, Erased}
+use Rattle.journal.proofs.Numbers.{byte-here}
 
 -- ---- the loop of `is_erased`
 
@@ -31,6 +33,37 @@ erased-not l {at = at} e n a b h = n (e ∙ h .are at a b)
 
 pub erased-done : {l : List ℕ} {from to at : ℕ} → Erased l from at → to ≤ at → Erased l from to
 erased-done h n = record { are = λ k a b. h .are k a (omega arith) }
+
+pub erased-joined : {l : List ℕ} {from at to : ℕ} → Erased l from at → Erased l at to → Erased l from to
+erased-joined {at = at} h g = record {
+  are = λ k a b. ⊎-elim (λ (t : at ≤ k). g .are k t b) (λ (t : k < at). h .are k a t) (le-or-lt at k);
+}
+
+-- ---- four bytes at once
+
+-- the number that n bytes of FF are
+ones : ℕ → ℕ
+ones zero = 0
+ones (suc n) = 255 + 256 * ones n
+
+load-ones : (n : ℕ) (l : List ℕ) (k : ℕ) → ((j : ℕ) → getD l j 0 < 256) → k + n ≤ length l → loadOf n l k ≡ ones n → Erased l k (k + n)
+unfolding loadOf ones
+load-ones zero l k small h e = record { are = λ j a b. absurd (omega arith) }
+load-ones (suc n) l k small h e =
+    let f : getD l k 0 ≡ 0xFF = omega (arith, small k) in
+    let rest = load-ones n l (k + 1) small (omega arith) (omega (arith, small k)) in
+    record {
+      are =
+          λ j a b.
+          ⊎-elim
+          (λ (t : suc k ≤ j). rest .are j (omega arith) (omega arith))
+          (λ (t : j < suc k). let same : j ≡ k = omega arith in ap (byteAt l) same ∙ sym (byte-here l k (omega arith)) ∙ f)
+          (le-or-lt (suc k) j);
+    }
+
+pub erased-four : (l : List ℕ) (k : ℕ) {r : ℕ} → ((j : ℕ) → getD l j 0 < 256) → k + 4 ≤ length l → r ≡ loadOf 4 l k → r ≡ 0xFFFFFFFF → Erased l k (k + 4)
+unfolding ones
+erased-four l k small h e f = load-ones 4 l k small h (sym e ∙ f)
 
 -- ---- the bytes
 

@@ -2,10 +2,11 @@
 // FF. On a byte chip a page is one byte, and nothing is filled.
 use crate::ERASED;
 use crate::fields::byte_at;
+use word::load32;
 ghost use mathlib.Core.Path.{_≡_};
-ghost use Prim.Native.Nat.{_/_, _≤_, _<_};
+ghost use Prim.Native.Nat.{_+_, _/_, _≤_, _<_};
 ghost use Rattle.journal.specs.Format.{pagesIn, chipLength, fillOf};
-ghost use Rattle.journal.specs.Parts.{Decides, Erased};
+ghost use Rattle.journal.specs.Parts.{byteAt, Decides, Erased};
 
 // Whether n bytes are whole pages; a byte chip asks for no division.
 pub fn is_whole(n: usize, page: usize) -> bool
@@ -60,6 +61,22 @@ pub fn fill(n: usize, page: usize) -> usize
     page - over
 }
 
+// How many bytes from k on are FF, of those looked at in one turn: four where they stand on the journal before
+// `to`, else the one at k. A MARK of 18 bytes leaves up to 14 to fill, and one by one they cost a recovery most.
+fn erased_at(l: &[u8], k: usize, to: usize) -> usize
+    requires { ⌜ k ≤ 100000 ⌝ }
+    ensures { λ r. ⌜ (r ≤ 4) × Erased (now (l .entry)) k (k + r) × (r ≡ 0 → ¬ (byteAt (now (l .entry)) k ≡ 0xFF)) ⌝ }
+{
+    if k + 4 <= to {
+        if k + 4 <= l.len() {
+            if load32(l, k) == 0xffff_ffff {
+                return 4;
+            }
+        }
+    }
+    if byte_at(l, k) == ERASED { 1 } else { 0 }
+}
+
 // Whether the bytes from `from` to `to` are FF, as far as there are any.
 pub fn is_erased(l: &[u8], from: usize, to: usize) -> bool
     requires { ⌜ to ≤ 100000 ⌝ }
@@ -67,10 +84,11 @@ pub fn is_erased(l: &[u8], from: usize, to: usize) -> bool
 {
     let mut k = from;
     while k < to {
-        if byte_at(l, k) != ERASED {
+        let some = erased_at(l, k, to);
+        if some == 0 {
             return false;
         }
-        k += 1;
+        k += some;
     }
     true
 }
