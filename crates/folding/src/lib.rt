@@ -1,7 +1,8 @@
 // Folding (document 02, Q-6): what a full byte chip holds goes onto a blank one as one checkpoint (save), by
-// steps of one byte. The old chip's MARKs name the plan, or none (Q-8); those of the new one name it. `fold` takes any program, words, chips and numbers, and is `FoldIs` of specs/Fold.antt;
-// specs/Lists.antt states what every list of its calls and cuts leaves, and proofs/Theorem.antt has it. That a
-// batch goes on with the new chip is proved in crate `batch`.
+// steps of one byte. The old chip's MARKs name the plan, or none (Q-8); those of the new one name it. `fold`
+// takes any program, words, chips and numbers, and is `FoldIs` of specs/Fold.antt; specs/Lists.antt states what
+// every list of its calls and cuts leaves, and proofs/Theorem.antt has it. That a batch goes on with the new
+// chip is proved in crate `batch`.
 use cellset::CellSet;
 use cellset::empty;
 use cellset::single;

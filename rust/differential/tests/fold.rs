@@ -7,7 +7,7 @@ use claim::folds::found_number;
 use claim::Met;
 use differential::buffer::Buffer;
 use differential::call::{agreed, sets_of, word_bytes, Call, Entry, Folded, Library, SET_WORDS};
-use differential::examples::{mean, programs, SMALL};
+use differential::examples::{mean, programs, FIRST, SECOND, SMALL};
 use differential::folds::save_of;
 use differential::journals::{every_cell, filled, left, stored_with};
 use differential::plans::refused_examples;
@@ -16,16 +16,6 @@ use reference::journal::{read, Kind, BYTE_CHIP, ERASED, MAX_CHIP, RECORD};
 use reference::layout::STATE_BYTES;
 use reference::machine::State;
 use reference::Machine;
-
-/// The small plan's first two saves, with readings 5 and 7.
-const FIRST: [u8; 24] = [
-    0xA1, 0x00, 0x05, 0x00, 0x00, 0x00, 0xA3, 0x11, 0x00, 0x0F, 0x00, 0x01, 0x00, 0x00, 0x00, 0x01,
-    0x00, 0x00, 0x00, 0x14, 0x00, 0x44, 0x00, 0x5A,
-];
-const SECOND: [u8; 24] = [
-    0xA1, 0x00, 0x0C, 0x00, 0x00, 0x00, 0xA3, 0x11, 0x00, 0x0F, 0x00, 0x02, 0x00, 0x00, 0x00, 0x02,
-    0x00, 0x00, 0x00, 0x14, 0x00, 0x44, 0x00, 0x5A,
-];
 
 /// Where a state has the write position and the bytes to erase (docs/STATE.md).
 const WRITE: usize = 1_300;

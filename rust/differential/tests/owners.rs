@@ -6,22 +6,12 @@ use differential::buffer::Buffer;
 use differential::call::{
     agreed, number_bytes, sets_of, word_bytes, Call, Entry, Folded, Library, SET_WORDS,
 };
-use differential::examples::SMALL;
+use differential::examples::{FIRST, SECOND, SMALL};
 use differential::plans::refused_examples;
 use reference::journal::{owner, Kind, BYTE_CHIP, ERASED, MAX_CHIP, PAGE_CHIP};
 use reference::layout::STATE_BYTES;
 use reference::machine::State;
 use reference::Machine;
-
-/// The small plan's first two saves, with readings 5 and 7.
-const FIRST: [u8; 24] = [
-    0xA1, 0x00, 0x05, 0x00, 0x00, 0x00, 0xA3, 0x11, 0x00, 0x0F, 0x00, 0x01, 0x00, 0x00, 0x00, 0x01,
-    0x00, 0x00, 0x00, 0x14, 0x00, 0x44, 0x00, 0x5A,
-];
-const SECOND: [u8; 24] = [
-    0xA1, 0x00, 0x0C, 0x00, 0x00, 0x00, 0xA3, 0x11, 0x00, 0x0F, 0x00, 0x02, 0x00, 0x00, 0x00, 0x02,
-    0x00, 0x00, 0x00, 0x14, 0x00, 0x44, 0x00, 0x5A,
-];
 
 /// Where in such a save its mark begins, and where in it the length and the sum stand.
 const MARK_AT: usize = 6;
