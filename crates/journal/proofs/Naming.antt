@@ -78,20 +78,21 @@ drop-next (x ∷ l) (suc i) h = drop-next l i (omega arith) ∙ ap (λ (n : ℕ)
 -- the bytes from i on are still to be added
 pub record Summing (p : List ℕ) (sum i : ℕ) : Type 0 where
   pub most : i ≤ length p
+  pub small : sum < 65536
   pub whole : (sum + sumOf (drop i p)) % 65536 ≡ sumOf p % 65536
 
 pub summing-first : (p : List ℕ) → Summing p 0 0
-summing-first p = record { most = omega arith; whole = omega arith }
+summing-first p = record { most = omega arith; small = omega arith; whole = omega arith }
 
-pub summing-turn : {p : List ℕ} {sum i : ℕ} → Summing p sum i → i < length p → {x : ℕ} → x ≡ (sum + getD p i 0) % 2 ^ 32 → Summing p x (i + 1)
+pub summing-turn : {p : List ℕ} {sum i : ℕ} → Summing p sum i → i < length p → {x : ℕ} → x ≡ (sum + getD p i 0) % 2 ^ 16 → Summing p x (i + 1)
 unfolding sumOf
 summing-turn {p} {sum} {i} s h n =
     let e : sumOf (drop i p) ≡ getD p i 0 + sumOf (drop (i + 1) p) = ap sumOf (drop-next p i h) in
-    record { most = omega arith; whole = omega (arith, s .whole, e, n) }
+    record { most = omega arith; small = omega (arith, n); whole = omega (arith, s .whole, e, n) }
 
-pub summing-done : {p : List ℕ} {sum i : ℕ} → Summing p sum i → length p ≤ i → length p % 65536 + 65536 * (sum % 65536) ≡ ownerOf p
+pub summing-done : {p : List ℕ} {sum i : ℕ} → Summing p sum i → length p ≤ i → length p % 65536 + 65536 * sum ≡ ownerOf p
 unfolding sumOf ownerOf
 summing-done {p} {sum} {i} s h =
     let z : i ≡ length p = omega (arith, s .most) in
     let e : drop i p ≡ [] = drop-of-length-le p {i = i} h in
-    omega (arith, s .whole, ap sumOf e)
+    omega (arith, s .small, s .whole, ap sumOf e)

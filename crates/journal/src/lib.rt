@@ -143,13 +143,13 @@ fn walk(l: &[u8], n: usize, table: &[u8; 2048], page: usize, kind: usize, owner:
         match tail_at(l, i, n, &seen, at as u32 + 1, table, last, kind) {
             Tail::Whole => {
                 last = commit_at(l, i + 1, kind);
-                own = own_too(own, last.owner, owner);
                 let end = i + (14 + 4 * kind);
                 let next = end + fill(end, page);
                 if !is_erased(l, end, next) {
                     return refused(Scanned::Damaged);
                 }
                 restore(l, at, i, &mut values);
+                own = own_too(own, last.owner, owner);
                 at = next;
             }
             Tail::Cut => {

@@ -7,18 +7,18 @@ ghost use Rattle.journal.specs.Format.{ownerOf, kindOf};
 // What stands in place of a plan's owner where the MARKs are those of document 01, which name no plan.
 pub const UNOWNED: u32 = 0;
 
-// The plan's length and, from the third byte on, the sum of its bytes, each modulo 65,536. The sum wraps and is
-// taken modulo 65,536 at the end, so that the compiler takes many bytes at a time.
+// The plan's length and, from the third byte on, the sum of its bytes, each modulo 65,536. A sum of 16 bits wraps
+// just there, and the compiler adds many bytes at a time.
 pub fn owner_of(p: &[u8]) -> u32
     ensures { λ r. ⌜ r ≡ ownerOf (now (p .entry)) ⌝ }
 {
-    let mut sum: u32 = 0;
+    let mut sum: u16 = 0;
     let mut i: usize = 0;
     while i < p.len() {
-        sum = std::num::wrapping_add_u32(sum, p[i] as u32);
+        sum = std::num::wrapping_add_u16(sum, p[i] as u16);
         i += 1;
     }
-    (p.len() % 65536) as u32 + 65536 * (sum % 65536)
+    (p.len() % 65536) as u32 + 65536 * (sum as u32)
 }
 
 // The kind of MARK: 1, `A3`, with a plan's owner, and 0, `A2`, without.

@@ -54,33 +54,30 @@ commit-at-requires c κs =
     let m = walking-most (c .before .before .before .before .before .before .before .loop .inv) (c .before .before .before .before .records-end .ensures) (c .before .before .tail-at .ensures _ _) (c .enum-told .given .1) in
     (omega (arith, m), h .0, h .4)
 
-own-too-requires : tie.Need-own-too-requires Inv-loop μ-loop
-own-too-requires c κs = search needs
-
 mul-end : tie.Need-mul-end Inv-loop μ-loop
-mul-end c = omega (arith, c .before .before .before .before .before .before .before .before .before .before .before .pre .4)
+mul-end c = omega (arith, c .before .before .before .before .before .before .before .before .before .before .pre .4)
 
 add-end : tie.Need-add-end Inv-loop μ-loop
-add-end c = omega (arith, c .before .before .before .before .before .before .before .before .before .before .before .pre .4)
+add-end c = omega (arith, c .before .before .before .before .before .before .before .before .before .before .pre .4)
 
 add-end-2 : tie.Need-add-end-2 Inv-loop μ-loop
 add-end-2 c =
-    let e = c .before .before in
+    let e = c .before in
     let h = e .before .before .before .before .before .before .before .before .before .pre in
     omega (arith, e .before .before .before .before .records-end .ensures .most, h .0, h .4)
 
 fill-requires : tie.Need-fill-requires Inv-loop μ-loop
-fill-requires c κs = c .before .before .before .before .before .before .before .before .before .before .before .pre .2
+fill-requires c κs = c .before .before .before .before .before .before .before .before .before .before .pre .2
 
 add-next : tie.Need-add-next Inv-loop μ-loop
 add-next c =
-    let e = c .before .before .before in
+    let e = c .before .before in
     let h = e .before .before .before .before .before .before .before .before .before .pre in
     omega (arith, e .before .before .before .before .records-end .ensures .most, h .0, h .3, h .4, c .fill .ensures .1)
 
 is-erased-requires : tie.Need-is-erased-requires Inv-loop μ-loop
 is-erased-requires c κs =
-    let e = c .before .before .before in
+    let e = c .before .before in
     let h = e .before .before .before .before .before .before .before .before .before .pre in
     omega (arith, e .before .before .before .before .records-end .ensures .most, h .0, h .3, h .4, c .fill .ensures .1)
 
@@ -89,7 +86,7 @@ refused-requires c κs = search needs
 
 returns : tie.Need-returns Inv-loop μ-loop
 returns c =
-    let e = c .before .before .before .before .before .before in
+    let e = c .before .before .before .before .before in
     let w = e .before .before .before .before .before .before .before .loop .inv in
     let p = e .before .before .before .before .records-end in
     let h = e .before .before .before .before .before .before .before .before .before .pre in
@@ -102,9 +99,12 @@ returns c =
 
 restore-requires : tie.Need-restore-requires Inv-loop μ-loop
 restore-requires c κs =
-    let e = c .before .before .before .before .before .before in
+    let e = c .before .before .before .before .before in
     let p = e .before .before .before .before .records-end .ensures in
     (p .most, e .before .before .before .before .before .before .before .before .before .pre .0, omega (arith, p .end-is), e .before .before .before .before .before .before .before .loop .inv .cells)
+
+own-too-requires : tie.Need-own-too-requires Inv-loop μ-loop
+own-too-requires c κs = search needs
 
 loop-less : tie.Need-loop-less Inv-loop μ-loop
 loop-less c =
@@ -118,11 +118,11 @@ loop-again c =
     let p = e .before .before .before .before .records-end in
     let h = e .before .before .before .before .before .before .before .before .before .pre in
     let kind = e .before .before .before .before .before .before .before .before .before .args .kind in
-    let d = c .before .before .before .is-erased in
+    let d = c .before .before .before .before .is-erased in
     walking-turn w (p .ensures) (e .before .before .tail-at .ensures _ _) (e .enum-told .given .1) (h .1) (e .before .before .before .before .before .before .loop-test .taken) (h .2)
-    (ap (λ (k : ℕ). p .result + (14 + 4 * kind) + k) (c .before .before .before .before .fill .ensures .0 ∙ walking-fill w (p .ensures) (h .2)))
-    (decides-yes (d .result) (not-false (d .result) (c .before .before .if1 .left)) (d .ensures)) (c .restore .ensures) (c .before .before .before .before .before .before .commit-at .ensures)
-    (c .before .before .before .before .before .own-too .ensures)
+    (ap (λ (k : ℕ). p .result + (14 + 4 * kind) + k) (c .before .before .before .before .before .fill .ensures .0 ∙ walking-fill w (p .ensures) (h .2)))
+    (decides-yes (d .result) (not-false (d .result) (c .before .before .before .if1 .left)) (d .ensures)) (c .before .restore .ensures) (c .before .before .before .before .before .before .commit-at .ensures)
+    (c .own-too .ensures)
 
 enum-told-2 : tie.Need-enum-told-2 Inv-loop μ-loop
 enum-told-2 c = search needs
@@ -179,7 +179,6 @@ walk-spec =
     enum-told
     add-commit-at
     commit-at-requires
-    own-too-requires
     mul-end
     add-end
     add-end-2
@@ -189,6 +188,7 @@ walk-spec =
     refused-requires
     returns
     restore-requires
+    own-too-requires
     loop-less
     loop-again
     enum-told-2

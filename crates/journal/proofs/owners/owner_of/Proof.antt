@@ -17,14 +17,14 @@ abbrev μ-loop : tie.MeasureT-loop
 loop-holds : tie.Need-loop-holds Inv-loop μ-loop
 loop-holds c = summing-first _
 
-shared-slice-read-wrapping-add-u32 : tie.Need-shared-slice-read-wrapping-add-u32 Inv-loop μ-loop
-shared-slice-read-wrapping-add-u32 c = search needs
+shared-slice-read-wrapping-add-u16 : tie.Need-shared-slice-read-wrapping-add-u16 Inv-loop μ-loop
+shared-slice-read-wrapping-add-u16 c = search needs
 
-cast-wrapping-add-u32 : tie.Need-cast-wrapping-add-u32 Inv-loop μ-loop
-cast-wrapping-add-u32 c = omega (arith, c .before .before .before .shared-slice-known .given (c .before .before .loop .i))
+cast-wrapping-add-u16 : tie.Need-cast-wrapping-add-u16 Inv-loop μ-loop
+cast-wrapping-add-u16 c = omega (arith, c .before .before .before .shared-slice-known .given (c .before .before .loop .i))
 
-wrapping-add-u32-requires : tie.Need-wrapping-add-u32-requires Inv-loop μ-loop
-wrapping-add-u32-requires c κs = search needs
+wrapping-add-u16-requires : tie.Need-wrapping-add-u16-requires Inv-loop μ-loop
+wrapping-add-u16-requires c κs = search needs
 
 add-i : tie.Need-add-i Inv-loop μ-loop
 add-i c = search needs
@@ -33,16 +33,19 @@ loop-less : tie.Need-loop-less Inv-loop μ-loop
 loop-less c = omega (arith, c .before .before .loop-test .taken)
 
 loop-again : tie.Need-loop-again Inv-loop μ-loop
-loop-again c = summing-turn (c .before .before .before .loop .inv) (c .before .before .loop-test .taken) (c .wrapping-add-u32 .ensures)
+loop-again c = summing-turn (c .before .before .before .loop .inv) (c .before .before .loop-test .taken) (c .wrapping-add-u16 .ensures)
 
 cast-result : tie.Need-cast-result Inv-loop μ-loop
 cast-result c = omega arith
 
+cast-result-2 : tie.Need-cast-result-2 Inv-loop μ-loop
+cast-result-2 c = omega (arith, c .before .loop .inv .small)
+
 mul-result : tie.Need-mul-result Inv-loop μ-loop
-mul-result c = omega arith
+mul-result c = omega (arith, c .before .loop .inv .small)
 
 add-result : tie.Need-add-result Inv-loop μ-loop
-add-result c = omega arith
+add-result c = omega (arith, c .before .loop .inv .small)
 
 returns : tie.Need-returns Inv-loop μ-loop
 returns c = summing-done (c .before .loop .inv) (c .loop-test .left)
@@ -54,13 +57,14 @@ owner-of-spec =
     Inv-loop
     μ-loop
     loop-holds
-    shared-slice-read-wrapping-add-u32
-    cast-wrapping-add-u32
-    wrapping-add-u32-requires
+    shared-slice-read-wrapping-add-u16
+    cast-wrapping-add-u16
+    wrapping-add-u16-requires
     add-i
     loop-less
     loop-again
     cast-result
+    cast-result-2
     mul-result
     add-result
     returns)
