@@ -2,15 +2,15 @@
 //! is folded after each step and with a cut after each byte; and a fold before and after the change
 //! of day of Q-3.
 
+mod written;
+
 use claim::folds::found_number;
 use claim::plans::SMALL;
-use claim::{Reference, Start, Watch};
+use claim::{Reference, Watch};
 use reference::folding::Folded;
 use reference::journal::{BYTE_CHIP, ERASED};
 use reference::layout::STATE_BYTES;
-use reference::machine::SET_WORDS;
-
-const READINGS: [i32; 3] = [5, 7, -2];
+use written::{list, recover, run, READINGS};
 
 /// The small plan's second and third save, with readings 7 and -2.
 const SECOND: [u8; 24] = [
@@ -25,33 +25,6 @@ const THIRD: [u8; 24] = [
 /// Its steps with three saves: SET, then for each reading four commands, a CHECKPOINT with 24
 /// bytes, and JUMP.
 const STEPS: u64 = 1 + 3 * (4 + 1 + 24 + 1);
-
-/// A list of the plan on an erased chip of this length.
-fn list(plan: &[u8], chip: usize) -> Watch<'static, Reference> {
-    let start = Start {
-        plan: plan.to_vec(),
-        readings: READINGS.to_vec(),
-        page: BYTE_CHIP,
-        chip,
-        state: vec![0xA5; STATE_BYTES],
-        sets: vec![0; SET_WORDS],
-    };
-    Watch::new(&Reference, start)
-}
-
-#[track_caller]
-fn recover(watch: &mut Watch<Reference>) {
-    let recovered = watch.recover();
-    recovered.unwrap_or_else(|violation| panic!("{violation}"));
-}
-
-/// Runs on the good state, lent all untaken readings, and gives the run's steps.
-#[track_caller]
-fn run(watch: &mut Watch<Reference>, budget: u64) -> u64 {
-    let untaken = watch.untaken();
-    let ran = watch.run(untaken, 100, budget);
-    ran.unwrap_or_else(|violation| panic!("{violation}")).steps
-}
 
 /// A call of folding.
 #[track_caller]
@@ -75,10 +48,10 @@ fn fold_onto(watch: &mut Watch<Reference>, length: usize, cut: u64) {
 
 #[test]
 fn a_full_chip_is_folded_and_the_next_save_finds_room() {
-    let mut watch = list(SMALL, 48);
+    let mut watch = list(SMALL, BYTE_CHIP, 48);
     recover(&mut watch);
     // All of it, but the third save finds no room.
-    assert_eq!(run(&mut watch, 1000), STEPS - 24);
+    assert_eq!(run(&mut watch, 1000).steps, STEPS - 24);
     assert_eq!(watch.tally(), 19);
     let full = watch.chip().to_vec();
     let mut new = vec![ERASED; 53];
@@ -92,7 +65,7 @@ fn a_full_chip_is_folded_and_the_next_save_finds_room() {
     recover(&mut watch);
     assert_eq!((watch.tally(), watch.untaken()), (12, 1));
     // JUMP and the third round, whose save is stored now.
-    assert_eq!(run(&mut watch, 1000), 1 + 4 + 1 + 24 + 1);
+    assert_eq!(run(&mut watch, 1000).steps, 1 + 4 + 1 + 24 + 1);
     assert_eq!(watch.so_far(), [5, 12, 10]);
     assert_eq!(watch.chip()[..24], SECOND);
     assert_eq!(watch.chip()[24..48], THIRD);
@@ -101,7 +74,7 @@ fn a_full_chip_is_folded_and_the_next_save_finds_room() {
 
 #[test]
 fn without_a_whole_save_the_plan_begins_again_on_a_blank_chip() {
-    let mut watch = list(SMALL, 48);
+    let mut watch = list(SMALL, BYTE_CHIP, 48);
     recover(&mut watch);
     // The CHECKPOINT and 23 bytes.
     run(&mut watch, 5 + 1 + 23);
@@ -109,7 +82,7 @@ fn without_a_whole_save_the_plan_begins_again_on_a_blank_chip() {
     assert_eq!(watch.chip(), [ERASED; 72]);
     recover(&mut watch);
     assert_eq!(watch.tally(), 0);
-    assert_eq!(run(&mut watch, 1000), STEPS);
+    assert_eq!(run(&mut watch, 1000).steps, STEPS);
     assert_eq!(watch.so_far(), [5, 12, 10]);
 }
 
@@ -117,7 +90,7 @@ fn without_a_whole_save_the_plan_begins_again_on_a_blank_chip() {
 fn a_fold_after_each_step_with_a_cut_after_each_byte() {
     for steps in 0..=STEPS {
         for cut in 0..=24 {
-            let mut watch = list(SMALL, 72);
+            let mut watch = list(SMALL, BYTE_CHIP, 72);
             recover(&mut watch);
             run(&mut watch, steps);
             // With room for one save, or for all three.
@@ -134,7 +107,7 @@ fn a_fold_after_each_step_with_a_cut_after_each_byte() {
 fn two_folds_after_each_two_numbers_of_steps() {
     for first in (0..=STEPS).step_by(3) {
         for second in (0..=STEPS).step_by(5) {
-            let mut watch = list(SMALL, 72);
+            let mut watch = list(SMALL, BYTE_CHIP, 72);
             for (steps, length) in [(first, 49), (second, 72)] {
                 recover(&mut watch);
                 run(&mut watch, steps);
@@ -158,7 +131,7 @@ fn a_fold_before_and_after_the_change_of_day() {
     // The steps of two rounds under the sets until Q-3.
     for before in 0..=60 {
         for folds_first in [true, false] {
-            let mut watch = list(&SET_POINT, 100);
+            let mut watch = list(&SET_POINT, BYTE_CHIP, 100);
             watch.begin_until();
             recover(&mut watch);
             run(&mut watch, before);

@@ -2,14 +2,14 @@
 //! small plan, begun as until then, whose chip is folded after each step and with a cut after each
 //! byte; and the same over the change of day of Q-3 as well.
 
+mod written;
+
 use claim::folds::found_number;
 use claim::plans::SMALL;
-use claim::{Reference, Start, Watch};
+use claim::{Reference, Watch};
 use reference::journal::{BYTE_CHIP, ERASED};
 use reference::layout::STATE_BYTES;
-use reference::machine::SET_WORDS;
-
-const READINGS: [i32; 3] = [5, 7, -2];
+use written::{list, recover, run, READINGS};
 
 /// The small plan's first save until Q-8, with reading 5, and what it is folded to.
 const FIRST_A2: [u8; 20] = [
@@ -27,31 +27,9 @@ const STEPS: u64 = 1 + 3 * (4 + 1 + 20 + 1);
 
 /// A list of the plan on an erased chip of this length, begun as until Q-8.
 fn begun(plan: &[u8], chip: usize) -> Watch<'static, Reference> {
-    let start = Start {
-        plan: plan.to_vec(),
-        readings: READINGS.to_vec(),
-        page: BYTE_CHIP,
-        chip,
-        state: vec![0xA5; STATE_BYTES],
-        sets: vec![0; SET_WORDS],
-    };
-    let mut watch = Watch::new(&Reference, start);
+    let mut watch = list(plan, BYTE_CHIP, chip);
     watch.begin_a2();
     watch
-}
-
-#[track_caller]
-fn recover(watch: &mut Watch<Reference>) {
-    let recovered = watch.recover();
-    recovered.unwrap_or_else(|violation| panic!("{violation}"));
-}
-
-/// Runs on the good state, lent all untaken readings.
-#[track_caller]
-fn run(watch: &mut Watch<Reference>, budget: u64) {
-    let untaken = watch.untaken();
-    let ran = watch.run(untaken, 100, budget);
-    ran.unwrap_or_else(|violation| panic!("{violation}"));
 }
 
 #[track_caller]

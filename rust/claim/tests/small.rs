@@ -1,48 +1,24 @@
 //! Lists that are written out: document 01's small plan on a chip that holds its first two or three saves, with the
 //! tally counted by hand, and with a cut after each step and a second cut after each step that follows.
 
+mod written;
+
 use claim::plans::SMALL;
-use claim::{Reference, Start, Watch};
+use claim::{Reference, Watch};
 use reference::journal::{BYTE_CHIP, ERASED, PAGE_CHIP};
 use reference::layout::STATE_BYTES;
-use reference::machine::SET_WORDS;
+use written::{list, recover};
 
-const READINGS: [i32; 3] = [5, 7, -2];
-
-/// Room for every output.
-const ROOM: usize = 100;
-
-fn small(page: usize, chip: usize) -> Watch<'static, Reference> {
-    let start = Start {
-        plan: SMALL.to_vec(),
-        readings: READINGS.to_vec(),
-        page,
-        chip,
-        state: vec![0xA5; STATE_BYTES],
-        sets: vec![0; SET_WORDS],
-    };
-    Watch::new(&Reference, start)
-}
-
-/// Runs on the good state, lent all untaken readings, and gives how the run ended and its steps.
+/// Runs on the good state, and gives how the run ended and its steps.
 #[track_caller]
 fn run(watch: &mut Watch<Reference>, budget: u64) -> (u32, u64) {
-    let untaken = watch.untaken();
-    let ran = watch.run(untaken, ROOM, budget);
-    let ran = ran.unwrap_or_else(|violation| panic!("{violation}"));
+    let ran = written::run(watch, budget);
     (ran.ended, ran.steps)
-}
-
-#[track_caller]
-fn recover(watch: &mut Watch<Reference>) {
-    watch
-        .recover()
-        .unwrap_or_else(|violation| panic!("{violation}"));
 }
 
 #[test]
 fn the_tally_when_cut_after_33_bytes() {
-    let mut watch = small(BYTE_CHIP, 72);
+    let mut watch = list(SMALL, BYTE_CHIP, 72);
     recover(&mut watch);
     // SET, READ, ADD, EMIT, EXCLUDE, and the CHECKPOINT that begins to save.
     run(&mut watch, 6);
@@ -74,7 +50,7 @@ fn the_tally_when_cut_after_33_bytes() {
 
 #[test]
 fn a_save_passed_over_counts_at_once() {
-    let mut watch = small(BYTE_CHIP, 23);
+    let mut watch = list(SMALL, BYTE_CHIP, 23);
     recover(&mut watch);
     run(&mut watch, 6);
     assert_eq!((watch.tally(), watch.met.get("saves passed over")), (6, 1));
@@ -85,7 +61,7 @@ fn a_save_passed_over_counts_at_once() {
 
 #[test]
 fn the_tally_when_cut_between_two_pages() {
-    let mut watch = small(PAGE_CHIP, 64);
+    let mut watch = list(SMALL, PAGE_CHIP, 64);
     recover(&mut watch);
     // SET, READ, ADD, EMIT, EXCLUDE, the CHECKPOINT that begins to save, and the first page.
     run(&mut watch, 7);
@@ -115,7 +91,7 @@ fn cut_twice(page: usize, chip: usize, steps: u64) -> (u64, u64) {
     let mut in_erasing = 0;
     for first in 0..=steps {
         for second in 0..=30 {
-            let mut watch = small(page, chip);
+            let mut watch = list(SMALL, page, chip);
             for budget in [first, second] {
                 recover(&mut watch);
                 run(&mut watch, budget);
