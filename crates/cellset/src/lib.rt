@@ -1,6 +1,8 @@
 // Sets of cells, four 64-bit words each (document 01: "In a set bit b of word w stands for cell
 // 64 × w + b"). Each operation is equated with its members by `SetIs` of specs/Sets.antt, which also
 // fixes the words; a set that stands inside a slice is named by the index of its first word.
+#![tactic(auto)]
+
 ghost use Rattle.std.specs.Prelude.{◌≡◌, true, ℕ, ◌+◌, ◌-◌, ◌≤◌, ◌<◌, min, max, eqb, length, get_or, take, drop};
 ghost use Rattle.std.proofs.lemmas.List.Edits.{sets};
 ghost use Rattle.cellset.specs.Bits.{bit, has, is, within};

@@ -1,6 +1,8 @@
 // One instruction (document 01: a command): the length table, decoding, what it may read and write,
 // where it may go, and whether its cells and its table exist. Everything is equated with
 // specs/Bytes.antt and with the rows of specs/Table.antt, document 01's command table.
+#![tactic(auto)]
+
 pub mod access;
 mod decode;
 pub mod exist;

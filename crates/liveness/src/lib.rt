@@ -2,6 +2,8 @@
 // with paths by `Settled` of specs/Graph.antt: a bit is set where no path makes the cell live, and clear
 // where one does. The worklist is a list of numbers with a flag for each, specs/Queue.antt; analysis
 // searches regions with the same `push`.
+#![tactic(auto)]
+
 mod worklist;
 
 ghost use Rattle.std.specs.Prelude.{◌≡◌, true, false, ◌+◌, ◌*◌, ◌≤◌, ◌<◌, length};

@@ -1,5 +1,7 @@
 // The marks of cells, a byte to a cell: the rule at EXCLUDE, what a completed save changes, and the set of cells
 // that a save holds. Each function is equated with specs/Marks.antt, document 01's sentences about marks.
+#![tactic(auto)]
+
 ghost use Rattle.std.specs.Prelude.{◌≡◌, cond, ℕ, ◌+◌, ◌^◌, ◌<◌, ◌≤◌, length, leb};
 ghost use Rattle.cellset.specs.Bits.{bit};
 ghost use Rattle.cellset.specs.Sets.{SetIs};

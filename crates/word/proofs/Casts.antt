@@ -15,10 +15,10 @@ wide f = to_z-of_z (wide_fits f) ∙ to_z-of_z f
 
 -- an i64 in the range of i32 as an i32: the same
 pub narrow-fits : {z : ℤ} → SFits w32 z → SFits w32 (to_z w64 (of_z w64 z))
-narrow-fits f = subst (SFits w32) (sym (to_z-of_z (sfits_widen tt f))) f
+narrow-fits {z} f = subst (SFits w32) (sym (to_z-of_z {w = w64} {z = z} (sfits_widen tt f))) f
 
 pub narrow : {z : ℤ} → SFits w32 z → to_z w32 (of_z w32 (to_z w64 (of_z w64 z))) ≡ z
-narrow f = to_z-of_z (narrow-fits f) ∙ to_z-of_z (sfits_widen tt f)
+narrow {z} f = to_z-of_z (narrow-fits f) ∙ to_z-of_z {w = w64} {z = z} (sfits_widen tt f)
 
 -- z is the pattern n: at 64 bits it fits and is read back, and it can be cast to u32
 module _ {z : ℤ} {n : ℕ} (e : z ≡ pos n) (f : n < 2 ^ 32) where

@@ -2,6 +2,8 @@
 // A cell is a `u32` that holds the pattern of a signed 32-bit number. Each function is equated with
 // a definition of specs/: Word.antt over the integers, Bytes.antt over any width. All proofs about
 // signed numbers stand in this crate; above it a cell's value is only moved.
+#![tactic(auto)]
+
 ghost use Rattle.std.specs.Prelude.{◌≡◌, ◌+◌, ◌<◌, ◌≤◌, [], ◌∷◌, length, unsigned_abs};
 ghost use Rattle.word.specs.Word.{val, bits_of, add_of, sub_of, div_of, less_of, place_of};
 ghost use Rattle.word.specs.Bytes.{byte_of, number_of, load_of, store_of};

@@ -7,26 +7,26 @@ use borrow.Author.Rules.{rules}
 use Rattle.cellset.proofs.contains.Statement.{statement}
 use Rattle.cellset.proofs.contains.Tie as tie
 
-cast-i : tie.Need-overflow-cast-i
+cast-i : tie.Need-overflow_cast-i
 cast-i c = search rules
 
-cast-k : tie.Need-overflow-cast-k
+cast-k : tie.Need-overflow_cast-k
 cast-k c = search rules
 
-mul-result : tie.Need-overflow-mul-result
+mul-result : tie.Need-offset_bounds-a-i
 mul-result c = search rules
 
-element-copy-out-result : tie.Need-element-copy-out-result
+element-copy-out-result : tie.Need-bounds-a-i
 element-copy-out-result c = search rules
 
-shr-result : tie.Need-overflow-shr-result
+shr-result : tie.Need-overflow_shr-result
 shr-result c = search rules
 
 returns : tie.Need-returns
 returns c =
     let a = c.before.args in
-    test_bit (get_or a.t1.words (a.c / 64) 0) (a.c % 64)
+    test_bit (get_or a.a.words (a.c / 64) 0) (a.c % 64)
 
-pub contains-spec : {M : Type 1} → statement M
-contains-spec =
+pub contains_spec : {M : Type 1} → statement M
+contains_spec =
     tie.close (tie.spec cast-i cast-k mul-result element-copy-out-result shr-result returns)

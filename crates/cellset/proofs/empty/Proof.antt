@@ -14,5 +14,5 @@ none i = record { fits = pow_pos 64; cells = λ k l. bit-of-zero k }
 returns : tie.Need-returns
 returns c = four-words (none 0) (none 1) (none 2) (none 3)
 
-pub empty-spec : {M : Type 1} → statement M
-empty-spec = tie.close (tie.spec returns)
+pub empty_spec : {M : Type 1} → statement M
+empty_spec = tie.close (tie.spec returns)

@@ -7,19 +7,19 @@ use borrow.Author.Rules.{rules}
 use Rattle.cellset.proofs.is_in.Statement.{statement}
 use Rattle.cellset.proofs.is_in.Tie as tie
 
-cast-i : tie.Need-overflow-cast-i
+cast-i : tie.Need-overflow_cast-i
 cast-i c = search rules
 
-cast-k : tie.Need-overflow-cast-k
+cast-k : tie.Need-overflow_cast-k
 cast-k c = search rules
 
-mul-result : tie.Need-overflow-mul-result
+mul-result : tie.Need-offset_bounds-words-i
 mul-result c = search rules
 
-element-copy-out-result : tie.Need-element-copy-out-result
+element-copy-out-result : tie.Need-bounds-words-i
 element-copy-out-result c = search rules
 
-shr-result : tie.Need-overflow-shr-result
+shr-result : tie.Need-overflow_shr-result
 shr-result c = search rules
 
 returns : tie.Need-returns
@@ -27,6 +27,6 @@ returns c =
     let a = c.before.args in
     test_bit (get_or a.words.now (a.c / 64) 0) (a.c % 64)
 
-pub is-in-spec : {M : Type 1} → statement M
-is-in-spec =
+pub is_in_spec : {M : Type 1} → statement M
+is_in_spec =
     tie.close (tie.spec cast-i cast-k mul-result element-copy-out-result shr-result returns)

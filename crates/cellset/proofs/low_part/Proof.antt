@@ -9,31 +9,31 @@ use borrow.Author.Rules.{rules}
 use Rattle.cellset.proofs.low_part.Statement.{statement}
 use Rattle.cellset.proofs.low_part.Tie as tie
 
-returns : tie.Need-returns
+returns : tie.Need-returns-then-n-first
 returns c = λ k l. low_bits 0 c.before.args.n c.before.args.first k (omega arith) l
 
-sub-if2 : tie.Need-overflow-sub-if2
+sub-if2 : tie.Need-overflow_sub-n
 sub-if2 c = search rules
 
-returns-2 : tie.Need-returns-2
+returns-2 : tie.Need-returns-then-n-first-ge64
 returns-2 c = λ k l. low_bits 64 c.before.before.args.n c.before.before.args.first k (omega arith) l
 
-sub-result : tie.Need-overflow-sub-result
+sub-result : tie.Need-overflow_sub-result
 sub-result c = search rules
 
-shl-result : tie.Need-overflow-shl-result
+shl-result : tie.Need-overflow_shl-result
 shl-result c = search rules
 
-sub-result-2 : tie.Need-overflow-sub-result-2
+sub-result-2 : tie.Need-overflow_sub-result-2
 sub-result-2 c =
     let a = c.before.before.args in
-    shifted-pos (a.n - a.first) c.if2.false
+    shifted-pos (a.n - a.first) c.if-n-first-ge64.false
 
-returns-3 : tie.Need-returns-3
+returns-3 : tie.Need-returns
 returns-3 c = λ k l.
     let a = c.before.before.args in
-    ap (λ (x : ℕ). bit (x - 1) k) (shifted (a.n - a.first) c.if2.false) ∙ low_bits (a.n - a.first) a.n a.first k (omega arith) l
+    ap (λ (x : ℕ). bit (x - 1) k) (shifted (a.n - a.first) c.if-n-first-ge64.false) ∙ low_bits (a.n - a.first) a.n a.first k (omega arith) l
 
-pub low-part-spec : {M : Type 1} → statement M
-low-part-spec =
+pub low_part_spec : {M : Type 1} → statement M
+low_part_spec =
     tie.close (tie.spec returns sub-if2 returns-2 sub-result shl-result sub-result-2 returns-3)

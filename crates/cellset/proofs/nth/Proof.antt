@@ -8,73 +8,73 @@ use borrow.Author.Rules.{rules}
 use Rattle.cellset.proofs.nth.Statement.{statement}
 use Rattle.cellset.proofs.nth.Tie as tie
 
-abbrev invariant-loop : tie.invariant-loop
+abbrev invariant-loop : tie.invariant-loop-i
 invariant-loop k a left₀ i₀ left i = Wanted a.words k i left
 
-abbrev decreases-loop : tie.decreases-loop
+abbrev decreases-loop : tie.decreases-loop-i
 decreases-loop k a left₀ i₀ left i = 4 - i
 
-loop-holds : tie.Need-loop-init invariant-loop decreases-loop
-loop-holds c = wanted-first c.args.t1.words c.args.k
+loop-holds : tie.Need-loop-i-init invariant-loop decreases-loop
+loop-holds c = wanted-first c.args.a.words c.args.k
 
-mul-n : tie.Need-overflow-mul-n invariant-loop decreases-loop
+mul-n : tie.Need-offset_bounds-a-i invariant-loop decreases-loop
 mul-n c = search rules
 
-element-copy-out-n : tie.Need-element-copy-out-n invariant-loop decreases-loop
+element-copy-out-n : tie.Need-bounds-a-i invariant-loop decreases-loop
 element-copy-out-n c = search rules
 
-cast-result : tie.Need-overflow-cast-result invariant-loop decreases-loop
+cast-result : tie.Need-overflow_cast-result invariant-loop decreases-loop
 cast-result c = search rules
 
-mul-result : tie.Need-overflow-mul-result invariant-loop decreases-loop
+mul-result : tie.Need-overflow_mul-result invariant-loop decreases-loop
 mul-result c = search rules
 
-mul-nth-bit : tie.Need-overflow-mul-nth-bit invariant-loop decreases-loop
+mul-nth-bit : tie.Need-offset_bounds-a-i-then-left-n invariant-loop decreases-loop
 mul-nth-bit c = search rules
 
-element-copy-out-nth-bit : tie.Need-element-copy-out-nth-bit invariant-loop decreases-loop
+element-copy-out-nth-bit : tie.Need-bounds-a-i-then-left-n invariant-loop decreases-loop
 element-copy-out-nth-bit c = search rules
 
-nth-bit-requires : tie.Need-nth-bit-requires invariant-loop decreases-loop
+nth-bit-requires : tie.Need-nth_bit-requires invariant-loop decreases-loop
 nth-bit-requires c κs = search rules
 
-returns : tie.Need-returns invariant-loop decreases-loop
+returns : tie.Need-returns-then-left-n invariant-loop decreases-loop
 returns c =
     let b = c.before.before.before.before.before in
     let a = b.before.args in
-    wanted-here a.t1.words (λ i. search rules) a.k b.loop.i b.loop.left b.loop.invariant c.before.before.before.before.loop-test.true
-    c.nth-bit.result c.before.before.if1.true c.nth-bit.ensures
+    wanted-here a.a.words (λ i. search rules) a.k b.loop-i.i b.loop-i.left b.loop-i.invariant c.before.before.before.before.loop-i-test.true
+    c.nth_bit.result c.before.before.if-left-n.true c.nth_bit.ensures
 
-add-result : tie.Need-overflow-add-result invariant-loop decreases-loop
+add-result : tie.Need-overflow_add-result invariant-loop decreases-loop
 add-result c =
     let b = c.before.before.before.before.before in
-    record { fits = omega (arith, returns c, nth-below b.before.args.t1.words b.before.args.k) }
+    record { fits = omega (arith, returns c, nth-below b.before.args.a.words b.before.args.k) }
 
-cast-result-2 : tie.Need-overflow-cast-result-2 invariant-loop decreases-loop
+cast-result-2 : tie.Need-overflow_cast-result-then-left-n invariant-loop decreases-loop
 cast-result-2 c =
     let b = c.before.before.before.before.before in
-    record { fits = omega (arith, returns c, nth-below b.before.args.t1.words b.before.args.k) }
+    record { fits = omega (arith, returns c, nth-below b.before.args.a.words b.before.args.k) }
 
-add-i : tie.Need-overflow-add-i invariant-loop decreases-loop
+add-i : tie.Need-overflow_add-i invariant-loop decreases-loop
 add-i c = search rules
 
-loop-less : tie.Need-loop-smaller invariant-loop decreases-loop
-loop-less c = omega (arith, c.before.before.loop-test.true)
+loop-less : tie.Need-loop-i-smaller invariant-loop decreases-loop
+loop-less c = omega (arith, c.before.before.loop-i-test.true)
 
-loop-again : tie.Need-loop-preserved invariant-loop decreases-loop
+loop-again : tie.Need-loop-i-preserved invariant-loop decreases-loop
 loop-again c =
     let b = c.before.before.before in
     let a = b.before.args in
-    wanted-turn a.t1.words (λ i. search rules) a.k b.loop.i b.loop.left b.loop.invariant c.before.before.loop-test.true c.if1.false
+    wanted-turn a.a.words (λ i. search rules) a.k b.loop-i.i b.loop-i.left b.loop-i.invariant c.before.before.loop-i-test.true c.if-left-n.false
 
-returns-2 : tie.Need-returns-2 invariant-loop decreases-loop
+returns-2 : tie.Need-returns invariant-loop decreases-loop
 returns-2 c =
     let b = c.before in
     let a = b.before.args in
-    wanted-done a.t1.words a.k b.loop.i b.loop.left b.loop.invariant c.loop-test.false
+    wanted-done a.a.words a.k b.loop-i.i b.loop-i.left b.loop-i.invariant c.loop-i-test.false
 
-pub nth-spec : {M : Type 1} → statement M
-nth-spec =
+pub nth_spec : {M : Type 1} → statement M
+nth_spec =
     tie.close
     (tie.spec
     invariant-loop

@@ -6,43 +6,43 @@ use Rattle.cellset.proofs.Ranks.{Sought, sought-none, sought-turn, sought-done}
 use Rattle.cellset.proofs.nth_bit.Statement.{statement}
 use Rattle.cellset.proofs.nth_bit.Tie as tie
 
-abbrev invariant-loop : tie.invariant-loop
+abbrev invariant-loop : tie.invariant-loop-left
 invariant-loop w k rest₀ left₀ rest left = Sought w k rest left
 
-abbrev decreases-loop : tie.decreases-loop
+abbrev decreases-loop : tie.decreases-loop-left
 decreases-loop w k rest₀ left₀ rest left = left
 
-loop-holds : tie.Need-loop-init invariant-loop decreases-loop
+loop-holds : tie.Need-loop-left-init invariant-loop decreases-loop
 loop-holds c = refl
 
-returns : tie.Need-returns invariant-loop decreases-loop
+returns : tie.Need-returns-then-rest-eq0 invariant-loop decreases-loop
 returns c =
     let a = c.before.before.before.args in
-    let l = c.before.before.loop in
-    sought-none a.w a.k l.rest l.left l.invariant c.if1.true
+    let l = c.before.before.loop-left in
+    sought-none a.w a.k l.rest l.left l.invariant c.if-rest-eq0.true
 
-sub-rest : tie.Need-overflow-sub-rest invariant-loop decreases-loop
-sub-rest c = omega (arith, c.if1.false)
+sub-rest : tie.Need-overflow_sub-rest invariant-loop decreases-loop
+sub-rest c = omega (arith, c.if-rest-eq0.false)
 
-sub-left : tie.Need-overflow-sub-left invariant-loop decreases-loop
-sub-left c = omega (arith, c.before.loop-test.true)
+sub-left : tie.Need-overflow_sub-left invariant-loop decreases-loop
+sub-left c = omega (arith, c.before.loop-left-test.true)
 
-loop-less : tie.Need-loop-smaller invariant-loop decreases-loop
-loop-less c = omega (arith, c.before.loop-test.true)
+loop-less : tie.Need-loop-left-smaller invariant-loop decreases-loop
+loop-less c = omega (arith, c.before.loop-left-test.true)
 
-loop-again : tie.Need-loop-preserved invariant-loop decreases-loop
+loop-again : tie.Need-loop-left-preserved invariant-loop decreases-loop
 loop-again c =
     let a = c.before.before.before.args in
-    let l = c.before.before.loop in
-    sought-turn a.w a.k l.rest l.left l.invariant c.before.loop-test.true
+    let l = c.before.before.loop-left in
+    sought-turn a.w a.k l.rest l.left l.invariant c.before.loop-left-test.true
 
-returns-2 : tie.Need-returns-2 invariant-loop decreases-loop
+returns-2 : tie.Need-returns invariant-loop decreases-loop
 returns-2 c =
     let a = c.before.before.args in
-    let l = c.before.loop in
-    sought-done a.w a.k l.rest l.left l.invariant c.loop-test.false
+    let l = c.before.loop-left in
+    sought-done a.w a.k l.rest l.left l.invariant c.loop-left-test.false
 
-pub nth-bit-spec : {M : Type 1} → statement M
-nth-bit-spec =
+pub nth_bit_spec : {M : Type 1} → statement M
+nth_bit_spec =
     tie.close
     (tie.spec invariant-loop decreases-loop loop-holds returns sub-rest sub-left loop-less loop-again returns-2)

@@ -7,16 +7,16 @@ use borrow.Author.Rules.{rules}
 use Rattle.cellset.proofs.part.Statement.{statement}
 use Rattle.cellset.proofs.part.Tie as tie
 
-low-part-requires : tie.Need-low-part-requires
+low-part-requires : tie.Need-low_part-requires
 low-part-requires c κs = search rules
 
-low-part-requires-2 : tie.Need-low-part-requires-2
+low-part-requires-2 : tie.Need-low_part-requires-2
 low-part-requires-2 c κs = search rules
 
 returns : tie.Need-returns
 returns c = λ k l.
     let a = c.before.before.args in
-    bit-less 64 k _ _ (search rules) l ∙ ap₂ ◌-◌ (c.before.low_part.ensures k l) (c.low-part2.ensures k l) ∙ within-less a.lo a.hi (a.first + k)
+    bit-less 64 k _ _ (search rules) l ∙ ap₂ ◌-◌ (c.before.low_part.ensures k l) (c.low_part-2.ensures k l) ∙ within-less a.lo a.hi (a.first + k)
 
-pub part-spec : {M : Type 1} → statement M
-part-spec = tie.close (tie.spec low-part-requires low-part-requires-2 returns)
+pub part_spec : {M : Type 1} → statement M
+part_spec = tie.close (tie.spec low-part-requires low-part-requires-2 returns)

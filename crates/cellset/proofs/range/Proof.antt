@@ -21,10 +21,10 @@ returns : tie.Need-returns
 returns c =
     four-words
     (record { fits = search rules; cells = c.before.before.before.part.ensures })
-    (record { fits = search rules; cells = c.before.before.part2.ensures })
-    (record { fits = search rules; cells = c.before.part3.ensures })
-    (record { fits = search rules; cells = c.part4.ensures })
+    (record { fits = search rules; cells = c.before.before.part-2.ensures })
+    (record { fits = search rules; cells = c.before.part-3.ensures })
+    (record { fits = search rules; cells = c.part-4.ensures })
 
-pub range-spec : {M : Type 1} → statement M
-range-spec =
+pub range_spec : {M : Type 1} → statement M
+range_spec =
     tie.close (tie.spec part-requires part-requires-2 part-requires-3 part-requires-4 returns)

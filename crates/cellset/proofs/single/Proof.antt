@@ -7,7 +7,7 @@ use borrow.Author.Rules.{rules}
 use Rattle.cellset.proofs.single.Statement.{statement}
 use Rattle.cellset.proofs.single.Tie as tie
 
-add-range : tie.Need-overflow-add-range
+add-range : tie.Need-overflow_add-a
 add-range c = search rules
 
 range-requires : tie.Need-range-requires
@@ -16,5 +16,5 @@ range-requires c κs = search rules
 returns : tie.Need-returns
 returns c = set-ext c.range.ensures (λ k l. sym (is_within c.before.args.a k))
 
-pub single-spec : {M : Type 1} → statement M
-single-spec = tie.close (tie.spec add-range range-requires returns)
+pub single_spec : {M : Type 1} → statement M
+single_spec = tie.close (tie.spec add-range range-requires returns)

@@ -9,57 +9,57 @@ use borrow.Author.Rules.{rules}
 use Rattle.marks.proofs.exclude.Statement.{statement}
 use Rattle.marks.proofs.exclude.Tie as tie
 
-abbrev invariant-loop : tie.invariant-loop
+abbrev invariant-loop : tie.invariant-loop-c
 invariant-loop marks₀ ws at n c₀ marks c = (c ≤ n) × (marks ≡ excluded_marks ws at c marks₀)
 
-abbrev decreases-loop : tie.decreases-loop
+abbrev decreases-loop : tie.decreases-loop-c
 decreases-loop marks₀ ws at n c₀ marks c = n - c
 
-loop-holds : tie.Need-loop-init invariant-loop decreases-loop
+loop-holds : tie.Need-loop-c-init invariant-loop decreases-loop
 loop-holds c = (omega arith, excluded-first _ _ _)
 
-in-set-requires : tie.Need-in-set-requires invariant-loop decreases-loop
+in-set-requires : tie.Need-in_set-de-requires invariant-loop decreases-loop
 in-set-requires c κs = search rules
 
-add-in-set : tie.Need-overflow-add-in-set invariant-loop decreases-loop
+add-in-set : tie.Need-overflow_add-at invariant-loop decreases-loop
 add-in-set c = search rules
 
-in-set-requires-2 : tie.Need-in-set-requires-2 invariant-loop decreases-loop
+in-set-requires-2 : tie.Need-in_set-ro-requires invariant-loop decreases-loop
 in-set-requires-2 c κs = search rules
 
-element-copy-out-from-byte : tie.Need-element-copy-out-from-byte invariant-loop decreases-loop
+element-copy-out-from-byte : tie.Need-bounds-marks-c invariant-loop decreases-loop
 element-copy-out-from-byte c = omega arith
 
-from-byte-requires : tie.Need-from-byte-requires invariant-loop decreases-loop
+from-byte-requires : tie.Need-from_byte-requires invariant-loop decreases-loop
 from-byte-requires c κs = search rules
 
-exclude-mark-requires : tie.Need-exclude-mark-requires invariant-loop decreases-loop
+exclude-mark-requires : tie.Need-exclude_mark-requires invariant-loop decreases-loop
 exclude-mark-requires c κs = search rules
 
-to-byte-requires : tie.Need-to-byte-requires invariant-loop decreases-loop
+to-byte-requires : tie.Need-to_byte-requires invariant-loop decreases-loop
 to-byte-requires c κs = search rules
 
-element-write-marks : tie.Need-element-write-marks invariant-loop decreases-loop
+element-write-marks : tie.Need-bounds-marks-c-in-loop-c invariant-loop decreases-loop
 element-write-marks c = omega arith
 
-add-c : tie.Need-overflow-add-c invariant-loop decreases-loop
+add-c : tie.Need-overflow_add-c invariant-loop decreases-loop
 add-c c = omega arith
 
-loop-less : tie.Need-loop-smaller invariant-loop decreases-loop
+loop-less : tie.Need-loop-c-smaller invariant-loop decreases-loop
 loop-less c = omega arith
 
-loop-again : tie.Need-loop-preserved invariant-loop decreases-loop
+loop-again : tie.Need-loop-c-preserved invariant-loop decreases-loop
 loop-again c = (
   omega arith,
-  excluded-turn _ _ _ _ _ c.before.before.before.before.before.before.before.loop.invariant.1 c.before.before.before.before.before.in-set.ensures
-      c.before.before.before.before.in-set2.ensures c.before.before.from_byte.ensures c.before.exclude-mark.ensures c.to-byte.ensures,
+  excluded-turn _ _ _ _ _ c.before.before.before.before.before.before.before.loop-c.invariant.1 c.before.before.before.before.before.in_set-de.ensures
+      c.before.before.before.before.in_set-ro.ensures c.before.before.from_byte.ensures c.before.exclude_mark.ensures c.to_byte.ensures,
 )
 
 returns : tie.Need-returns invariant-loop decreases-loop
-returns c = let e : c.before.loop.c ≡ c.before.before.before.args.n = omega arith in rw (← e) c.before.loop.invariant.1
+returns c = let e : c.before.loop-c.c ≡ c.before.before.before.args.n = omega arith in rw (← e) c.before.loop-c.invariant.1
 
-pub exclude-spec : {M : Type 1} → statement M
-exclude-spec =
+pub exclude_spec : {M : Type 1} → statement M
+exclude_spec =
     tie.close
     (tie.spec
     invariant-loop

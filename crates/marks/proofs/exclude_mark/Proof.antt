@@ -5,46 +5,46 @@ use borrow.Author.Rules.{rules}
 use Rattle.marks.proofs.exclude_mark.Statement.{statement}
 use Rattle.marks.proofs.exclude_mark.Tie as tie
 
-returns : tie.Need-returns
+returns : tie.Need-returns-then-de
 returns c = search rules
 
-returns-2 : tie.Need-returns-2
-returns-2 c = rw (c.before.if1.false, not-true c.before.before.args.ro c.if2.true)
+returns-2 : tie.Need-returns-then-not-ro
+returns-2 c = rw (c.before.if-de.false, not-true c.before.before.args.ro c.if-not-ro.true)
 
-enum_told : tie.Need-enum-told
+enum_told : tie.Need-enum_told-1
 enum_told c = search rules
 
-enum-told-2 : tie.Need-enum-told-2
+enum-told-2 : tie.Need-enum_told-in-Pending
 enum-told-2 c = search rules
 
-enum-told-3 : tie.Need-enum-told-3
+enum-told-3 : tie.Need-enum_told-in-Kept
 enum-told-3 c = search rules
 
-enum-told-4 : tie.Need-enum-told-4
+enum-told-4 : tie.Need-enum_told-in-Dead
 enum-told-4 c = search rules
 
-returns-3 : tie.Need-returns-3
+returns-3 : tie.Need-returns-in-Include
 returns-3 c =
     let s = c.before.before.before.before in
-    rw (c.before.before.before.if1.false, not-false s.args.ro c.before.before.if2.false, c.enum_told.given.1)
+    rw (c.before.before.before.if-de.false, not-false s.args.ro c.before.before.if-not-ro.false, c.enum_told-1.given.1)
 
-returns-4 : tie.Need-returns-4
+returns-4 : tie.Need-returns-in-Pending
 returns-4 c =
     let s = c.before.before.before.before in
-    rw (c.before.before.before.if1.false, not-false s.args.ro c.before.before.if2.false, c.enum-told2.given.1)
+    rw (c.before.before.before.if-de.false, not-false s.args.ro c.before.before.if-not-ro.false, c.enum_told-in-Pending-1.given.1)
 
-returns-5 : tie.Need-returns-5
+returns-5 : tie.Need-returns-in-Kept
 returns-5 c =
     let s = c.before.before.before.before in
-    rw (c.before.before.before.if1.false, not-false s.args.ro c.before.before.if2.false, c.enum-told3.given.1)
+    rw (c.before.before.before.if-de.false, not-false s.args.ro c.before.before.if-not-ro.false, c.enum_told-in-Kept-1.given.1)
 
-returns-6 : tie.Need-returns-6
+returns-6 : tie.Need-returns-in-Dead
 returns-6 c =
     let s = c.before.before.before.before in
-    rw (c.before.before.before.if1.false, not-false s.args.ro c.before.before.if2.false, c.enum-told4.given.1)
+    rw (c.before.before.before.if-de.false, not-false s.args.ro c.before.before.if-not-ro.false, c.enum_told-in-Dead-1.given.1)
 
-pub exclude-mark-spec : {M : Type 1} → statement M
-exclude-mark-spec =
+pub exclude_mark_spec : {M : Type 1} → statement M
+exclude_mark_spec =
     tie.close
     (tie.spec
     returns

@@ -10,16 +10,16 @@ use borrow.Author.Rules.{rules}
 use Rattle.marks.proofs.in_set.Statement.{statement}
 use Rattle.marks.proofs.in_set.Tie as tie
 
-add-result : tie.Need-overflow-add-result
+add-result : tie.Need-overflow_add-result
 add-result c = search rules
 
-mul-result : tie.Need-overflow-mul-result
+mul-result : tie.Need-offset_bounds-ws-at
 mul-result c = search rules
 
-shared-slice-read-result : tie.Need-shared-slice-read-result
+shared-slice-read-result : tie.Need-bounds-ws-at
 shared-slice-read-result c = search rules
 
-shr-result : tie.Need-overflow-shr-result
+shr-result : tie.Need-overflow_shr-result
 shr-result c = search rules
 
 returns : tie.Need-returns
@@ -28,6 +28,6 @@ returns c =
     let a = c.before.args in
     ap (λ (n : ℕ). eqb n 1) (and_mask (get_or a.ws.now (a.at + a.c / 64) 0 / 2 ^ (a.c % 64)) 1)
 
-pub in-set-spec : {M : Type 1} → statement M
-in-set-spec =
+pub in_set_spec : {M : Type 1} → statement M
+in_set_spec =
     tie.close (tie.spec add-result mul-result shared-slice-read-result shr-result returns)

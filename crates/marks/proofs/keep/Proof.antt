@@ -9,45 +9,45 @@ use borrow.Author.Rules.{rules}
 use Rattle.marks.proofs.keep.Statement.{statement}
 use Rattle.marks.proofs.keep.Tie as tie
 
-abbrev invariant-loop : tie.invariant-loop
+abbrev invariant-loop : tie.invariant-loop-c
 invariant-loop marks₀ n c₀ marks c = (c ≤ n) × (marks ≡ saved_marks c marks₀)
 
-abbrev decreases-loop : tie.decreases-loop
+abbrev decreases-loop : tie.decreases-loop-c
 decreases-loop marks₀ n c₀ marks c = n - c
 
-loop-holds : tie.Need-loop-init invariant-loop decreases-loop
+loop-holds : tie.Need-loop-c-init invariant-loop decreases-loop
 loop-holds c = (omega arith, saved-first _)
 
-element-copy-out-from-byte : tie.Need-element-copy-out-from-byte invariant-loop decreases-loop
+element-copy-out-from-byte : tie.Need-bounds-marks-c invariant-loop decreases-loop
 element-copy-out-from-byte c = omega arith
 
-from-byte-requires : tie.Need-from-byte-requires invariant-loop decreases-loop
+from-byte-requires : tie.Need-from_byte-requires invariant-loop decreases-loop
 from-byte-requires c κs = search rules
 
-save-mark-requires : tie.Need-save-mark-requires invariant-loop decreases-loop
+save-mark-requires : tie.Need-save_mark-requires invariant-loop decreases-loop
 save-mark-requires c κs = search rules
 
-to-byte-requires : tie.Need-to-byte-requires invariant-loop decreases-loop
+to-byte-requires : tie.Need-to_byte-requires invariant-loop decreases-loop
 to-byte-requires c κs = search rules
 
-element-write-marks : tie.Need-element-write-marks invariant-loop decreases-loop
+element-write-marks : tie.Need-bounds-marks-c-in-loop-c invariant-loop decreases-loop
 element-write-marks c = omega arith
 
-add-c : tie.Need-overflow-add-c invariant-loop decreases-loop
+add-c : tie.Need-overflow_add-c invariant-loop decreases-loop
 add-c c = omega arith
 
-loop-less : tie.Need-loop-smaller invariant-loop decreases-loop
+loop-less : tie.Need-loop-c-smaller invariant-loop decreases-loop
 loop-less c = omega arith
 
-loop-again : tie.Need-loop-preserved invariant-loop decreases-loop
+loop-again : tie.Need-loop-c-preserved invariant-loop decreases-loop
 loop-again c = (
   omega arith,
-  saved-turn _ _ _ c.before.before.before.before.before.loop.invariant.1 c.before.before.from_byte.ensures c.before.save-mark.ensures
-      c.to-byte.ensures,
+  saved-turn _ _ _ c.before.before.before.before.before.loop-c.invariant.1 c.before.before.from_byte.ensures c.before.save_mark.ensures
+      c.to_byte.ensures,
 )
 
 returns : tie.Need-returns invariant-loop decreases-loop
-returns c = let e : c.before.loop.c ≡ c.before.before.args.n = omega arith in rw (← e) c.before.loop.invariant.1
+returns c = let e : c.before.loop-c.c ≡ c.before.before.args.n = omega arith in rw (← e) c.before.loop-c.invariant.1
 
 pub keep_spec : {M : Type 1} → statement M
 keep_spec =

@@ -9,51 +9,51 @@ use borrow.Author.Rules.{rules}
 use Rattle.marks.proofs.recover.Statement.{statement}
 use Rattle.marks.proofs.recover.Tie as tie
 
-abbrev invariant-loop : tie.invariant-loop
+abbrev invariant-loop : tie.invariant-loop-c
 invariant-loop marks₀ ws at n c₀ marks c = (c ≤ n) × (marks ≡ recovered_marks ws at c marks₀)
 
-abbrev decreases-loop : tie.decreases-loop
+abbrev decreases-loop : tie.decreases-loop-c
 decreases-loop marks₀ ws at n c₀ marks c = n - c
 
-loop-holds : tie.Need-loop-init invariant-loop decreases-loop
+loop-holds : tie.Need-loop-c-init invariant-loop decreases-loop
 loop-holds c = (omega arith, recovered-first _ _ _)
 
-in-set-requires : tie.Need-in-set-requires invariant-loop decreases-loop
+in-set-requires : tie.Need-in_set-de-requires invariant-loop decreases-loop
 in-set-requires c κs = search rules
 
-add-in-set : tie.Need-overflow-add-in-set invariant-loop decreases-loop
+add-in-set : tie.Need-overflow_add-at invariant-loop decreases-loop
 add-in-set c = search rules
 
-in-set-requires-2 : tie.Need-in-set-requires-2 invariant-loop decreases-loop
+in-set-requires-2 : tie.Need-in_set-ro-requires invariant-loop decreases-loop
 in-set-requires-2 c κs = search rules
 
-recovered-mark-requires : tie.Need-recovered-mark-requires invariant-loop decreases-loop
+recovered-mark-requires : tie.Need-recovered_mark-requires invariant-loop decreases-loop
 recovered-mark-requires c κs = search rules
 
-to-byte-requires : tie.Need-to-byte-requires invariant-loop decreases-loop
+to-byte-requires : tie.Need-to_byte-requires invariant-loop decreases-loop
 to-byte-requires c κs = search rules
 
-element-write-marks : tie.Need-element-write-marks invariant-loop decreases-loop
+element-write-marks : tie.Need-bounds-marks-c invariant-loop decreases-loop
 element-write-marks c = omega arith
 
-add-c : tie.Need-overflow-add-c invariant-loop decreases-loop
+add-c : tie.Need-overflow_add-c invariant-loop decreases-loop
 add-c c = omega arith
 
-loop-less : tie.Need-loop-smaller invariant-loop decreases-loop
+loop-less : tie.Need-loop-c-smaller invariant-loop decreases-loop
 loop-less c = omega arith
 
-loop-again : tie.Need-loop-preserved invariant-loop decreases-loop
+loop-again : tie.Need-loop-c-preserved invariant-loop decreases-loop
 loop-again c = (
   omega arith,
-  recovered-turn _ _ _ _ _ c.before.before.before.before.before.loop.invariant.1 c.before.before.before.in-set.ensures
-      c.before.before.in-set2.ensures c.before.recovered-mark.ensures c.to-byte.ensures,
+  recovered-turn _ _ _ _ _ c.before.before.before.before.before.loop-c.invariant.1 c.before.before.before.in_set-de.ensures
+      c.before.before.in_set-ro.ensures c.before.recovered_mark.ensures c.to_byte.ensures,
 )
 
 returns : tie.Need-returns invariant-loop decreases-loop
-returns c = let e : c.before.loop.c ≡ c.before.before.before.args.n = omega arith in rw (← e) c.before.loop.invariant.1
+returns c = let e : c.before.loop-c.c ≡ c.before.before.before.args.n = omega arith in rw (← e) c.before.loop-c.invariant.1
 
-pub recover-spec : {M : Type 1} → statement M
-recover-spec =
+pub recover_spec : {M : Type 1} → statement M
+recover_spec =
     tie.close
     (tie.spec
     invariant-loop

@@ -7,16 +7,16 @@ use borrow.Author.Rules.{rules}
 use Rattle.marks.proofs.stored_cells.Statement.{statement}
 use Rattle.marks.proofs.stored_cells.Tie as tie
 
-word-below-requires : tie.Need-word-below-requires
+word-below-requires : tie.Need-word_below-requires
 word-below-requires c κs = search rules
 
-word-below-requires-2 : tie.Need-word-below-requires-2
+word-below-requires-2 : tie.Need-word_below-requires-2
 word-below-requires-2 c κs = search rules
 
-word-below-requires-3 : tie.Need-word-below-requires-3
+word-below-requires-3 : tie.Need-word_below-requires-3
 word-below-requires-3 c κs = search rules
 
-word-below-requires-4 : tie.Need-word-below-requires-4
+word-below-requires-4 : tie.Need-word_below-requires-4
 word-below-requires-4 c κs = search rules
 
 below-requires : tie.Need-below-requires
@@ -31,13 +31,13 @@ returns c =
     let a = w.before.args in
     let all = made-set _
     (made-near a.n a.marks.now 0 (omega arith) (search rules) w.word_below.ensures)
-    (made-near a.n a.marks.now 64 (omega arith) (search rules) c.before.before.before.before.word-below2.ensures)
-    (made-near a.n a.marks.now 128 (omega arith) (search rules) c.before.before.before.word-below3.ensures)
-    (made-near a.n a.marks.now 192 (omega arith) (search rules) c.before.before.word-below4.ensures) in
+    (made-near a.n a.marks.now 64 (omega arith) (search rules) c.before.before.before.before.word_below-2.ensures)
+    (made-near a.n a.marks.now 128 (omega arith) (search rules) c.before.before.before.word_below-3.ensures)
+    (made-near a.n a.marks.now 192 (omega arith) (search rules) c.before.before.word_below-4.ensures) in
     set-ext (set-intersection all c.before.below.ensures c.intersection.ensures) (near-cut a.n a.marks.now)
 
-pub stored-cells-spec : {M : Type 1} → statement M
-stored-cells-spec =
+pub stored_cells_spec : {M : Type 1} → statement M
+stored_cells_spec =
     tie.close
     (tie.spec
     word-below-requires

@@ -5,7 +5,7 @@ use Rattle.word.proofs.Laws.{add-law}
 use Rattle.word.proofs.add.Statement.{statement}
 use Rattle.word.proofs.add.Tie as tie
 
-wrapping-add-u32-requires : tie.Need-wrapping-add-u32-requires
+wrapping-add-u32-requires : tie.Need-wrapping_add_u32-requires
 wrapping-add-u32-requires c κs = search rules
 
 returns : tie.Need-returns

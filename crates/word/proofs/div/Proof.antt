@@ -12,28 +12,28 @@ magnitude-requires c κs = search rules
 magnitude-requires-2 : tie.Need-magnitude-requires-2
 magnitude-requires-2 c κs = search rules
 
-div-q : tie.Need-nonzero-div-q
-div-q c = omega (arith, magnitude-pos c.before.before.args.b c.before.before.requires, c.magnitude2.ensures)
+div-q : tie.Need-nonzero_div-q
+div-q c = omega (arith, magnitude-pos c.before.before.args.b c.before.before.requires, c.magnitude-2.ensures)
 
-wrapping-sub-u32-requires : tie.Need-wrapping-sub-u32-requires
+wrapping-sub-u32-requires : tie.Need-wrapping_sub_u32-requires
 wrapping-sub-u32-requires c κs = search rules
 
 -- the code's quotient
-quotient : (c : tie.After-magnitude2)
-    → c.before.magnitude.result / c.magnitude2.result ≡ nat_abs (val c.before.before.args.a) / nat_abs (val c.before.before.args.b)
-quotient c i = c.before.magnitude.ensures i / c.magnitude2.ensures i
+quotient : (c : tie.After-magnitude-2)
+    → c.before.magnitude.result / c.magnitude-2.result ≡ nat_abs (val c.before.before.args.a) / nat_abs (val c.before.before.args.b)
+quotient c i = c.before.magnitude.ensures i / c.magnitude-2.ensures i
 
-returns : tie.Need-returns
+returns : tie.Need-returns-then-a-b
 returns c =
     let s = c.before.before.before in
-    omega (arith, quotient c.before, div_same s.args.a s.args.b s.ranges.a.fits c.if1.true)
+    omega (arith, quotient c.before, div_same s.args.a s.args.b s.ranges.a.fits c.if-a-b.true)
 
-returns-2 : tie.Need-returns-2
+returns-2 : tie.Need-returns-else-a-b
 returns-2 c =
     let s = c.before.before.before.before in
-    div-other s.args.a s.args.b s.ranges.a.fits _ (omega arith) c.before.if1.false (omega (arith, quotient c.before.before))
+    div-other s.args.a s.args.b s.ranges.a.fits _ (omega arith) c.before.if-a-b.false (omega (arith, quotient c.before.before))
 
-pub div-spec : {M : Type 1} → statement M
-div-spec =
+pub div_spec : {M : Type 1} → statement M
+div_spec =
     tie.close
     (tie.spec magnitude-requires magnitude-requires-2 div-q wrapping-sub-u32-requires returns returns-2)

@@ -5,33 +5,33 @@ use Rattle.word.proofs.Bytes.{load_one, load_split}
 use Rattle.word.proofs.load16.Statement.{statement}
 use Rattle.word.proofs.load16.Tie as tie
 
-shared-slice-read-low : tie.Need-shared-slice-read-low
+shared-slice-read-low : tie.Need-bounds-s-at
 shared-slice-read-low c = search rules
 
-add-high : tie.Need-overflow-add-high
+add-high : tie.Need-overflow_add-high
 add-high c = search rules
 
-shared-slice-read-high : tie.Need-shared-slice-read-high
+shared-slice-read-high : tie.Need-bounds-s-at-2
 shared-slice-read-high c = search rules
 
 -- the two bytes are below 256
-bytes : (c : tie.After-shared-slice-known2)
+bytes : (c : tie.After-shared_slice_known-2-1)
     → (get_or c.before.before.args.s.now c.before.before.args.at 0 < 256)
     × (get_or c.before.before.args.s.now (c.before.before.args.at + 1) 0 < 256)
 bytes c =
     let at = c.before.before.args.at in
-    ((c.shared-slice-known2.given at).fits, (c.shared-slice-known2.given (at + 1)).fits)
+    ((c.shared_slice_known-2-1.given at).fits, (c.shared_slice_known-2-1.given (at + 1)).fits)
 
-cast-result : tie.Need-overflow-cast-result
+cast-result : tie.Need-overflow_cast-result
 cast-result c = omega (arith, bytes c)
 
-cast-result-2 : tie.Need-overflow-cast-result-2
+cast-result-2 : tie.Need-overflow_cast-result-2
 cast-result-2 c = omega (arith, bytes c)
 
-mul-result : tie.Need-overflow-mul-result
+mul-result : tie.Need-overflow_mul-result
 mul-result c = omega (arith, bytes c)
 
-add-result : tie.Need-overflow-add-result
+add-result : tie.Need-overflow_add-result
 add-result c = omega (arith, bytes c)
 
 returns : tie.Need-returns
@@ -40,8 +40,8 @@ returns c =
     let at = c.before.before.args.at in
     omega (arith, load_split 1 1 s at, load_one s at, load_one s (at + 1))
 
-pub load16-spec : {M : Type 1} → statement M
-load16-spec =
+pub load16_spec : {M : Type 1} → statement M
+load16_spec =
     tie.close
     (tie.spec
     shared-slice-read-low

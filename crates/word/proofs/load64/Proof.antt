@@ -5,25 +5,25 @@ use Rattle.word.proofs.Bytes.{load_split}
 use Rattle.word.proofs.load64.Statement.{statement}
 use Rattle.word.proofs.load64.Tie as tie
 
-load32-requires : tie.Need-load32-requires
+load32-requires : tie.Need-load32-low-requires
 load32-requires c κs = search rules
 
-add-load32 : tie.Need-overflow-add-load32
+add-load32 : tie.Need-overflow_add-at
 add-load32 c = search rules
 
-load32-requires-2 : tie.Need-load32-requires-2
+load32-requires-2 : tie.Need-load32-high-requires
 load32-requires-2 c κs = search rules
 
-cast-result : tie.Need-overflow-cast-result
+cast-result : tie.Need-overflow_cast-result
 cast-result c = search rules
 
-cast-result-2 : tie.Need-overflow-cast-result-2
+cast-result-2 : tie.Need-overflow_cast-result-2
 cast-result-2 c = search rules
 
-mul-result : tie.Need-overflow-mul-result
+mul-result : tie.Need-overflow_mul-result
 mul-result c = search rules
 
-add-result : tie.Need-overflow-add-result
+add-result : tie.Need-overflow_add-result
 add-result c = search rules
 
 returns : tie.Need-returns
@@ -31,8 +31,8 @@ returns c =
     let s = c.before.before.before in
     omega (arith, load_split 4 4 s.args.s.now s.args.at)
 
-pub load64-spec : {M : Type 1} → statement M
-load64-spec =
+pub load64_spec : {M : Type 1} → statement M
+load64_spec =
     tie.close
     (tie.spec
     load32-requires

@@ -5,17 +5,17 @@ use Rattle.word.proofs.Laws.{val_pos, val-neg}
 use Rattle.word.proofs.magnitude.Statement.{statement}
 use Rattle.word.proofs.magnitude.Tie as tie
 
-sub-result : tie.Need-overflow-sub-result
+sub-result : tie.Need-overflow_sub-result
 sub-result c = search rules
 
-add-result : tie.Need-overflow-add-result
+add-result : tie.Need-overflow_add-result
 add-result c = search rules
 
-returns : tie.Need-returns
+returns : tie.Need-returns-then-a-lt-HALF
 returns c = omega (arith, ap nat_abs (val_pos c.before.args.a (omega arith)))
 
-returns-2 : tie.Need-returns-2
+returns-2 : tie.Need-returns-else-a-lt-HALF
 returns-2 c = omega (arith, ap nat_abs (val-neg c.before.args.a (omega arith)))
 
-pub magnitude-spec : {M : Type 1} → statement M
-magnitude-spec = tie.close (tie.spec sub-result add-result returns returns-2)
+pub magnitude_spec : {M : Type 1} → statement M
+magnitude_spec = tie.close (tie.spec sub-result add-result returns returns-2)

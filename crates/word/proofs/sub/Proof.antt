@@ -5,7 +5,7 @@ use Rattle.word.proofs.Laws.{sub-law}
 use Rattle.word.proofs.sub.Statement.{statement}
 use Rattle.word.proofs.sub.Tie as tie
 
-wrapping-sub-u32-requires : tie.Need-wrapping-sub-u32-requires
+wrapping-sub-u32-requires : tie.Need-wrapping_sub_u32-requires
 wrapping-sub-u32-requires c κs = search rules
 
 returns : tie.Need-returns

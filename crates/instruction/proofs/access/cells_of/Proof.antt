@@ -5,7 +5,7 @@ use borrow.Author.Rules.{rules}
 use Rattle.instruction.proofs.access.cells_of.Statement.{statement}
 use Rattle.instruction.proofs.access.cells_of.Tie as tie
 
-add-range : tie.Need-overflow-add-range
+add-range : tie.Need-overflow_add-base
 add-range c = search rules
 
 range-requires : tie.Need-range-requires
@@ -14,5 +14,5 @@ range-requires c κs = search rules
 returns : tie.Need-returns
 returns c = table-set c.before.args.base c.before.args.len c.range.ensures
 
-pub cells-of-spec : {M : Type 1} → statement M
-cells-of-spec = tie.close (tie.spec add-range range-requires returns)
+pub cells_of_spec : {M : Type 1} → statement M
+cells_of_spec = tie.close (tie.spec add-range range-requires returns)

@@ -15,23 +15,23 @@ use borrow.Author.Rules.{rules}
 use Rattle.instruction.proofs.access.flow_of.Statement.{statement}
 use Rattle.instruction.proofs.access.flow_of.Tie as tie
 
-enum_told : tie.Need-enum-told
+enum_told : tie.Need-enum_told-1
 enum_told c = search rules
 
-enum-known-i : tie.Need-enum-known-i
+enum-known-i : tie.Need-enum_known-i
 enum-known-i c = search rules
 
-enum-known-i-2 : tie.Need-enum-known-i-2
+enum-known-i-2 : tie.Need-enum_known-i-in-Less-1
 enum-known-i-2 c = search rules
 
-returns : tie.Need-returns
+returns : tie.Need-returns-in-End
 returns c = search rules
 
-returns-2 : tie.Need-returns-2
-returns-2 c = rw c.before.i.given.1
+returns-2 : tie.Need-returns-in-Jump
+returns-2 c = rw c.before.i-1.given.1
 
-returns-3 : tie.Need-returns-3
-returns-3 c = rw c.before.i2.given.1
+returns-3 : tie.Need-returns-in-Less
+returns-3 c = rw c.before.i-in-Less-1.given.1
 
 -- the instructions that the default arm is left with
 abbrev others : List ℕ
@@ -53,10 +53,10 @@ other (Put base len i a) k = refl
 other Exclude k = refl
 other Checkpoint k = refl
 
-returns-4 : tie.Need-returns-4
-returns-4 c = other c.before.args.i c.match.keys4
+returns-4 : tie.Need-returns-in_default
+returns-4 c = other c.before.args.i c.in_default.keys4
 
-pub flow-of-spec : {M : Type 1} → statement M
-flow-of-spec =
+pub flow_of_spec : {M : Type 1} → statement M
+flow_of_spec =
     tie.close
     (tie.spec enum_told enum-known-i enum-known-i-2 returns returns-2 returns-3 returns-4)

@@ -14,17 +14,17 @@ use borrow.Author.Rules.{rules}
 use Rattle.instruction.proofs.access.may_def.Statement.{statement}
 use Rattle.instruction.proofs.access.may_def.Tie as tie
 
-enum-known-i : tie.Need-enum-known-i
+enum-known-i : tie.Need-enum_known-i
 enum-known-i c = search rules
 
-cells-of-requires : tie.Need-cells-of-requires
+cells-of-requires : tie.Need-cells_of-requires
 cells-of-requires c κs = search rules
 
-must-def-requires : tie.Need-must-def-requires
+must-def-requires : tie.Need-must_def-requires
 must-def-requires c κs = search rules
 
-returns : tie.Need-returns
-returns c = rw c.before.before.i.given.1 c.Cells-of.ensures
+returns : tie.Need-returns-in-Put
+returns c = rw c.before.before.i-1.given.1 c.Cells-of.ensures
 
 -- the instructions that the default arm is left with
 abbrev others : List ℕ
@@ -46,9 +46,9 @@ other (Put base len i a) k = absurd (none_of others 11 tt k)
 other Exclude k = refl
 other Checkpoint k = refl
 
-returns-2 : tie.Need-returns-2
-returns-2 c = rw (← other c.before.before.args.i c.before.match.keys2) c.must-def.ensures
+returns-2 : tie.Need-returns-in_default
+returns-2 c = rw (← other c.before.before.args.i c.before.in_default.keys2) c.must_def.ensures
 
-pub may-def-spec : {M : Type 1} → statement M
-may-def-spec =
+pub may_def_spec : {M : Type 1} → statement M
+may_def_spec =
     tie.close (tie.spec enum-known-i cells-of-requires must-def-requires returns returns-2)

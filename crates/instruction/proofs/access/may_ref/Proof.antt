@@ -14,80 +14,80 @@ use borrow.Author.Rules.{rules}
 use Rattle.instruction.proofs.access.may_ref.Statement.{statement}
 use Rattle.instruction.proofs.access.may_ref.Tie as tie
 
-enum-known-i : tie.Need-enum-known-i
+enum-known-i : tie.Need-enum_known-i
 enum-known-i c = search rules
 
 one-requires : tie.Need-one-requires
 one-requires c κs = search rules
 
-enum-known-i-2 : tie.Need-enum-known-i-2
+enum-known-i-2 : tie.Need-enum_known-i-in-Add-1
 enum-known-i-2 c = search rules
 
 two-requires : tie.Need-two-requires
 two-requires c κs = search rules
 
-enum-known-i-3 : tie.Need-enum-known-i-3
+enum-known-i-3 : tie.Need-enum_known-i-in-Sub-1
 enum-known-i-3 c = search rules
 
-two-requires-2 : tie.Need-two-requires-2
+two-requires-2 : tie.Need-two-requires-in-Sub
 two-requires-2 c κs = search rules
 
-enum-known-i-4 : tie.Need-enum-known-i-4
+enum-known-i-4 : tie.Need-enum_known-i-in-Div-1
 enum-known-i-4 c = search rules
 
-two-requires-3 : tie.Need-two-requires-3
+two-requires-3 : tie.Need-two-requires-in-Div
 two-requires-3 c κs = search rules
 
-enum-known-i-5 : tie.Need-enum-known-i-5
+enum-known-i-5 : tie.Need-enum_known-i-in-Emit-1
 enum-known-i-5 c = search rules
 
-one-requires-2 : tie.Need-one-requires-2
+one-requires-2 : tie.Need-one-requires-in-Emit
 one-requires-2 c κs = search rules
 
-enum-known-i-6 : tie.Need-enum-known-i-6
+enum-known-i-6 : tie.Need-enum_known-i-in-Less-1
 enum-known-i-6 c = search rules
 
-two-requires-4 : tie.Need-two-requires-4
+two-requires-4 : tie.Need-two-requires-in-Less
 two-requires-4 c κs = search rules
 
-enum-known-i-7 : tie.Need-enum-known-i-7
+enum-known-i-7 : tie.Need-enum_known-i-in-Get-1
 enum-known-i-7 c = search rules
 
-one-and-cells-of-requires : tie.Need-one-and-cells-of-requires
+one-and-cells-of-requires : tie.Need-one_and_cells_of-requires
 one-and-cells-of-requires c κs = search rules
 
-enum-known-i-8 : tie.Need-enum-known-i-8
+enum-known-i-8 : tie.Need-enum_known-i-in-Put-1
 enum-known-i-8 c = search rules
 
-two-requires-5 : tie.Need-two-requires-5
+two-requires-5 : tie.Need-two-requires-in-Put
 two-requires-5 c κs = search rules
 
 nothing-requires : tie.Need-nothing-requires
 nothing-requires c κs = search rules
 
-returns : tie.Need-returns
-returns c = rw c.before.before.i.given.1 c.one.ensures
+returns : tie.Need-returns-in-Copy
+returns c = rw c.before.before.i-1.given.1 c.one.ensures
 
-returns-2 : tie.Need-returns-2
-returns-2 c = rw c.before.before.i2.given.1 c.two.ensures
+returns-2 : tie.Need-returns-in-Add
+returns-2 c = rw c.before.before.i-in-Add-1.given.1 c.two.ensures
 
-returns-3 : tie.Need-returns-3
-returns-3 c = rw c.before.before.i3.given.1 c.two2.ensures
+returns-3 : tie.Need-returns-in-Sub
+returns-3 c = rw c.before.before.i-in-Sub-1.given.1 c.two-in-Sub.ensures
 
-returns-4 : tie.Need-returns-4
-returns-4 c = rw c.before.before.i4.given.1 c.two3.ensures
+returns-4 : tie.Need-returns-in-Div
+returns-4 c = rw c.before.before.i-in-Div-1.given.1 c.two-in-Div.ensures
 
-returns-5 : tie.Need-returns-5
-returns-5 c = rw c.before.before.i5.given.1 c.one2.ensures
+returns-5 : tie.Need-returns-in-Emit
+returns-5 c = rw c.before.before.i-in-Emit-1.given.1 c.one-in-Emit.ensures
 
-returns-6 : tie.Need-returns-6
-returns-6 c = rw c.before.before.i6.given.1 c.two4.ensures
+returns-6 : tie.Need-returns-in-Less
+returns-6 c = rw c.before.before.i-in-Less-1.given.1 c.two-in-Less.ensures
 
-returns-7 : tie.Need-returns-7
-returns-7 c = rw c.before.before.i7.given.1 c.one-and-cells-of.ensures
+returns-7 : tie.Need-returns-in-Get
+returns-7 c = rw c.before.before.i-in-Get-1.given.1 c.one_and_cells_of.ensures
 
-returns-8 : tie.Need-returns-8
-returns-8 c = rw c.before.before.i8.given.1 c.two5.ensures
+returns-8 : tie.Need-returns-in-Put
+returns-8 c = rw c.before.before.i-in-Put-1.given.1 c.two-in-Put.ensures
 
 -- the instructions that the default arm is left with
 abbrev others : List ℕ
@@ -109,11 +109,11 @@ other (Put base len i a) k = absurd (none_of others 11 tt k)
 other Exclude k = refl
 other Checkpoint k = refl
 
-returns-9 : tie.Need-returns-9
-returns-9 c = rw (other c.before.before.args.i c.before.match.keys9) c.nothing.ensures
+returns-9 : tie.Need-returns-in_default
+returns-9 c = rw (other c.before.before.args.i c.before.in_default.keys9) c.nothing.ensures
 
-pub may-ref-spec : {M : Type 1} → statement M
-may-ref-spec =
+pub may_ref_spec : {M : Type 1} → statement M
+may_ref_spec =
     tie.close
     (tie.spec
     enum-known-i

@@ -5,14 +5,14 @@ use borrow.Author.Rules.{rules}
 use Rattle.instruction.proofs.access.must_def.Statement.{statement}
 use Rattle.instruction.proofs.access.must_def.Tie as tie
 
-sure-cells-requires : tie.Need-sure-cells-requires
+sure-cells-requires : tie.Need-sure_cells-s-requires
 sure-cells-requires c κs = search rules
 
-cells-of-requires : tie.Need-cells-of-requires
+cells-of-requires : tie.Need-cells_of-requires
 cells-of-requires c κs = search rules
 
 returns : tie.Need-returns
-returns c = span_set _ _ c.before.sure-cells.ensures c.Cells-of.ensures
+returns c = span_set _ _ c.before.sure_cells-s.ensures c.Cells-of.ensures
 
-pub must-def-spec : {M : Type 1} → statement M
-must-def-spec = tie.close (tie.spec sure-cells-requires cells-of-requires returns)
+pub must_def_spec : {M : Type 1} → statement M
+must_def_spec = tie.close (tie.spec sure-cells-requires cells-of-requires returns)

@@ -7,5 +7,5 @@ use Rattle.instruction.proofs.access.no_cell.Tie as tie
 returns : tie.Need-returns
 returns c = no_span 0
 
-pub no-cell-spec : {M : Type 1} → statement M
-no-cell-spec = tie.close (tie.spec returns)
+pub no_cell_spec : {M : Type 1} → statement M
+no_cell_spec = tie.close (tie.spec returns)

@@ -11,5 +11,5 @@ empty-requires c κs = search rules
 returns : tie.Need-returns
 returns c = empty-set c.empty.ensures
 
-pub nothing-spec : {M : Type 1} → statement M
-nothing-spec = tie.close (tie.spec empty-requires returns)
+pub nothing_spec : {M : Type 1} → statement M
+nothing_spec = tie.close (tie.spec empty-requires returns)

@@ -8,7 +8,7 @@ use Rattle.instruction.proofs.access.one_and_cells_of.Tie as tie
 single-requires : tie.Need-single-requires
 single-requires c κs = search rules
 
-cells-of-requires : tie.Need-cells-of-requires
+cells-of-requires : tie.Need-cells_of-requires
 cells-of-requires c κs = search rules
 
 union-requires : tie.Need-union-requires
@@ -19,6 +19,6 @@ returns c =
     let s = c.before.before.before.args in
     one-table-set s.a s.base s.len c.before.before.single.ensures c.before.Cells-of.ensures c.union.ensures
 
-pub one-and-cells-of-spec : {M : Type 1} → statement M
-one-and-cells-of-spec =
+pub one_and_cells_of_spec : {M : Type 1} → statement M
+one_and_cells_of_spec =
     tie.close (tie.spec single-requires cells-of-requires union-requires returns)

@@ -7,5 +7,5 @@ use Rattle.instruction.proofs.access.one_cell.Tie as tie
 returns : tie.Need-returns
 returns c = one_span c.args.d
 
-pub one-cell-spec : {M : Type 1} → statement M
-one-cell-spec = tie.close (tie.spec returns)
+pub one_cell_spec : {M : Type 1} → statement M
+one_cell_spec = tie.close (tie.spec returns)

@@ -14,77 +14,77 @@ use borrow.Author.Rules.{rules}
 use Rattle.instruction.proofs.access.sure_cells.Statement.{statement}
 use Rattle.instruction.proofs.access.sure_cells.Tie as tie
 
-enum-known-i : tie.Need-enum-known-i
+enum-known-i : tie.Need-enum_known-i
 enum-known-i c = search rules
 
-one-cell-requires : tie.Need-one-cell-requires
+one-cell-requires : tie.Need-one_cell-requires
 one-cell-requires c κs = search rules
 
-enum-known-i-2 : tie.Need-enum-known-i-2
+enum-known-i-2 : tie.Need-enum_known-i-in-Copy-1
 enum-known-i-2 c = search rules
 
-one-cell-requires-2 : tie.Need-one-cell-requires-2
+one-cell-requires-2 : tie.Need-one_cell-requires-in-Copy
 one-cell-requires-2 c κs = search rules
 
-enum-known-i-3 : tie.Need-enum-known-i-3
+enum-known-i-3 : tie.Need-enum_known-i-in-Add-1
 enum-known-i-3 c = search rules
 
-one-cell-requires-3 : tie.Need-one-cell-requires-3
+one-cell-requires-3 : tie.Need-one_cell-requires-in-Add
 one-cell-requires-3 c κs = search rules
 
-enum-known-i-4 : tie.Need-enum-known-i-4
+enum-known-i-4 : tie.Need-enum_known-i-in-Sub-1
 enum-known-i-4 c = search rules
 
-one-cell-requires-4 : tie.Need-one-cell-requires-4
+one-cell-requires-4 : tie.Need-one_cell-requires-in-Sub
 one-cell-requires-4 c κs = search rules
 
-enum-known-i-5 : tie.Need-enum-known-i-5
+enum-known-i-5 : tie.Need-enum_known-i-in-Div-1
 enum-known-i-5 c = search rules
 
-one-cell-requires-5 : tie.Need-one-cell-requires-5
+one-cell-requires-5 : tie.Need-one_cell-requires-in-Div
 one-cell-requires-5 c κs = search rules
 
-enum-known-i-6 : tie.Need-enum-known-i-6
+enum-known-i-6 : tie.Need-enum_known-i-in-Read-1
 enum-known-i-6 c = search rules
 
-one-cell-requires-6 : tie.Need-one-cell-requires-6
+one-cell-requires-6 : tie.Need-one_cell-requires-in-Read
 one-cell-requires-6 c κs = search rules
 
-enum-known-i-7 : tie.Need-enum-known-i-7
+enum-known-i-7 : tie.Need-enum_known-i-in-Get-1
 enum-known-i-7 c = search rules
 
-one-cell-requires-7 : tie.Need-one-cell-requires-7
+one-cell-requires-7 : tie.Need-one_cell-requires-in-Get
 one-cell-requires-7 c κs = search rules
 
-enum-known-i-8 : tie.Need-enum-known-i-8
+enum-known-i-8 : tie.Need-enum_known-i-in-Put-1
 enum-known-i-8 c = search rules
 
-sure-cell-requires : tie.Need-sure-cell-requires
+sure-cell-requires : tie.Need-sure_cell-requires
 sure-cell-requires c κs = search rules
 
-no-cell-requires : tie.Need-no-cell-requires
+no-cell-requires : tie.Need-no_cell-requires
 no-cell-requires c κs = search rules
 
-returns : tie.Need-returns
-returns c = rw c.before.before.i.given.1 c.one_Cell.ensures
+returns : tie.Need-returns-in-Set
+returns c = rw c.before.before.i-1.given.1 c.one_Cell.ensures
 
-returns-2 : tie.Need-returns-2
-returns-2 c = rw c.before.before.i2.given.1 c.one-cell2.ensures
+returns-2 : tie.Need-returns-in-Copy
+returns-2 c = rw c.before.before.i-in-Copy-1.given.1 c.one_cell-in-Copy.ensures
 
-returns-3 : tie.Need-returns-3
-returns-3 c = rw c.before.before.i3.given.1 c.one-cell3.ensures
+returns-3 : tie.Need-returns-in-Add
+returns-3 c = rw c.before.before.i-in-Add-1.given.1 c.one_cell-in-Add.ensures
 
-returns-4 : tie.Need-returns-4
-returns-4 c = rw c.before.before.i4.given.1 c.one-cell4.ensures
+returns-4 : tie.Need-returns-in-Sub
+returns-4 c = rw c.before.before.i-in-Sub-1.given.1 c.one_cell-in-Sub.ensures
 
-returns-5 : tie.Need-returns-5
-returns-5 c = rw c.before.before.i5.given.1 c.one-cell5.ensures
+returns-5 : tie.Need-returns-in-Div
+returns-5 c = rw c.before.before.i-in-Div-1.given.1 c.one_cell-in-Div.ensures
 
-returns-6 : tie.Need-returns-6
-returns-6 c = rw c.before.before.i6.given.1 c.one-cell6.ensures
+returns-6 : tie.Need-returns-in-Read
+returns-6 c = rw c.before.before.i-in-Read-1.given.1 c.one_cell-in-Read.ensures
 
-returns-7 : tie.Need-returns-7
-returns-7 c = rw c.before.before.i7.given.1 c.one-cell7.ensures
+returns-7 : tie.Need-returns-in-Get
+returns-7 c = rw c.before.before.i-in-Get-1.given.1 c.one_cell-in-Get.ensures
 
 -- the instructions that the default arm is left with
 abbrev others : List ℕ
@@ -106,14 +106,14 @@ other (Put base len i a) k = absurd (none_of others 11 tt k)
 other Exclude k = refl
 other Checkpoint k = refl
 
-returns-8 : tie.Need-returns-8
-returns-8 c = rw c.before.before.i8.given.1 c.sure-cell.ensures
+returns-8 : tie.Need-returns-in-Put
+returns-8 c = rw c.before.before.i-in-Put-1.given.1 c.sure_cell.ensures
 
-returns-9 : tie.Need-returns-9
-returns-9 c = rw (other c.before.before.args.i c.before.match.keys9) c.no_cell.ensures
+returns-9 : tie.Need-returns-in_default
+returns-9 c = rw (other c.before.before.args.i c.before.in_default.keys9) c.no_cell.ensures
 
-pub sure-cells-spec : {M : Type 1} → statement M
-sure-cells-spec =
+pub sure_cells_spec : {M : Type 1} → statement M
+sure_cells_spec =
     tie.close
     (tie.spec
     enum-known-i

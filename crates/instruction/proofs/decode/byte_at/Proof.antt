@@ -6,14 +6,14 @@ use borrow.Author.Rules.{rules}
 use Rattle.instruction.proofs.decode.byte_at.Statement.{statement}
 use Rattle.instruction.proofs.decode.byte_at.Tie as tie
 
-shared-slice-read-result : tie.Need-shared-slice-read-result
+shared-slice-read-result : tie.Need-bounds-p-at
 shared-slice-read-result c = search rules
 
-returns : tie.Need-returns
+returns : tie.Need-returns-then-at-p
 returns c = search rules
 
-returns-2 : tie.Need-returns-2
-returns-2 c = sym (get_or-eq_default c.before.args.p.now 0 c.if1.false)
+returns-2 : tie.Need-returns-else-at-p
+returns-2 c = sym (get_or-eq_default c.before.args.p.now 0 c.if-at-p.false)
 
-pub byte-at-spec : {M : Type 1} → statement M
-byte-at-spec = tie.close (tie.spec shared-slice-read-result returns returns-2)
+pub byte_at_spec : {M : Type 1} → statement M
+byte_at_spec = tie.close (tie.spec shared-slice-read-result returns returns-2)

@@ -7,24 +7,24 @@ use borrow.Author.Rules.{rules}
 use Rattle.instruction.proofs.decode.operand.Statement.{statement}
 use Rattle.instruction.proofs.decode.operand.Tie as tie
 
-returns : tie.Need-returns
+returns : tie.Need-returns-then-p-at
 returns c = sym (get_or-eq_default c.before.args.p.now 0 (omega arith))
 
-sub-if2 : tie.Need-overflow-sub-if2
+sub-if2 : tie.Need-overflow_sub-p
 sub-if2 c = search rules
 
-returns-2 : tie.Need-returns-2
+returns-2 : tie.Need-returns-then-p-at-2
 returns-2 c = sym (get_or-eq_default c.before.before.args.p.now 0 (omega arith))
 
-add-result : tie.Need-overflow-add-result
+add-result : tie.Need-overflow_add-result
 add-result c = search rules
 
-shared-slice-read-result : tie.Need-shared-slice-read-result
+shared-slice-read-result : tie.Need-bounds-p-at
 shared-slice-read-result c = search rules
 
-returns-3 : tie.Need-returns-3
+returns-3 : tie.Need-returns
 returns-3 c = search rules
 
-pub operand-spec : {M : Type 1} → statement M
-operand-spec =
+pub operand_spec : {M : Type 1} → statement M
+operand_spec =
     tie.close (tie.spec returns sub-if2 returns-2 add-result shared-slice-read-result returns-3)

@@ -8,5 +8,5 @@ use Rattle.instruction.proofs.exist.below1.Tie as tie
 returns : tie.Need-returns
 returns c = sym (and-true _)
 
-pub below1-spec : {M : Type 1} → statement M
-below1-spec = tie.close (tie.spec returns)
+pub below1_spec : {M : Type 1} → statement M
+below1_spec = tie.close (tie.spec returns)

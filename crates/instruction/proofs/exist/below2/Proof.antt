@@ -8,11 +8,11 @@ use Rattle.instruction.proofs.exist.below2.Tie as tie
 below1-requires : tie.Need-below1-requires
 below1-requires c κs = search rules
 
-returns : tie.Need-returns
-returns c = rw (lt-ltb _ _ c.before.if1.true) c.below1.ensures
+returns : tie.Need-returns-then-a-n
+returns c = rw (lt-ltb _ _ c.before.if-a-n.true) c.below1.ensures
 
-returns-2 : tie.Need-returns-2
-returns-2 c = rw (le-ltb _ _ c.if1.false)
+returns-2 : tie.Need-returns-else-a-n
+returns-2 c = rw (le-ltb _ _ c.if-a-n.false)
 
-pub below2-spec : {M : Type 1} → statement M
-below2-spec = tie.close (tie.spec below1-requires returns returns-2)
+pub below2_spec : {M : Type 1} → statement M
+below2_spec = tie.close (tie.spec below1-requires returns returns-2)

@@ -15,95 +15,95 @@ use borrow.Author.Rules.{rules}
 use Rattle.instruction.proofs.exist.cells_exist.Statement.{statement}
 use Rattle.instruction.proofs.exist.cells_exist.Tie as tie
 
-enum-known-i : tie.Need-enum-known-i
+enum-known-i : tie.Need-enum_known-i
 enum-known-i c = search rules
 
 below1-requires : tie.Need-below1-requires
 below1-requires c κs = search rules
 
-enum-known-i-2 : tie.Need-enum-known-i-2
+enum-known-i-2 : tie.Need-enum_known-i-in-Copy-1
 enum-known-i-2 c = search rules
 
 below2-requires : tie.Need-below2-requires
 below2-requires c κs = search rules
 
-enum-known-i-3 : tie.Need-enum-known-i-3
+enum-known-i-3 : tie.Need-enum_known-i-in-Add-1
 enum-known-i-3 c = search rules
 
 below3-requires : tie.Need-below3-requires
 below3-requires c κs = search rules
 
-enum-known-i-4 : tie.Need-enum-known-i-4
+enum-known-i-4 : tie.Need-enum_known-i-in-Sub-1
 enum-known-i-4 c = search rules
 
-below3-requires-2 : tie.Need-below3-requires-2
+below3-requires-2 : tie.Need-below3-requires-in-Sub
 below3-requires-2 c κs = search rules
 
-enum-known-i-5 : tie.Need-enum-known-i-5
+enum-known-i-5 : tie.Need-enum_known-i-in-Div-1
 enum-known-i-5 c = search rules
 
-below3-requires-3 : tie.Need-below3-requires-3
+below3-requires-3 : tie.Need-below3-requires-in-Div
 below3-requires-3 c κs = search rules
 
-enum-known-i-6 : tie.Need-enum-known-i-6
+enum-known-i-6 : tie.Need-enum_known-i-in-Read-1
 enum-known-i-6 c = search rules
 
-below1-requires-2 : tie.Need-below1-requires-2
+below1-requires-2 : tie.Need-below1-requires-in-Read
 below1-requires-2 c κs = search rules
 
-enum-known-i-7 : tie.Need-enum-known-i-7
+enum-known-i-7 : tie.Need-enum_known-i-in-Emit-1
 enum-known-i-7 c = search rules
 
-below1-requires-3 : tie.Need-below1-requires-3
+below1-requires-3 : tie.Need-below1-requires-in-Emit
 below1-requires-3 c κs = search rules
 
-enum-known-i-8 : tie.Need-enum-known-i-8
+enum-known-i-8 : tie.Need-enum_known-i-in-Less-1
 enum-known-i-8 c = search rules
 
-below2-requires-2 : tie.Need-below2-requires-2
+below2-requires-2 : tie.Need-below2-requires-in-Less
 below2-requires-2 c κs = search rules
 
-enum-known-i-9 : tie.Need-enum-known-i-9
+enum-known-i-9 : tie.Need-enum_known-i-in-Get-1
 enum-known-i-9 c = search rules
 
-below2-requires-3 : tie.Need-below2-requires-3
+below2-requires-3 : tie.Need-below2-requires-in-Get
 below2-requires-3 c κs = search rules
 
-enum-known-i-10 : tie.Need-enum-known-i-10
+enum-known-i-10 : tie.Need-enum_known-i-in-Put-1
 enum-known-i-10 c = search rules
 
-below2-requires-4 : tie.Need-below2-requires-4
+below2-requires-4 : tie.Need-below2-requires-in-Put
 below2-requires-4 c κs = search rules
 
-returns : tie.Need-returns
-returns c = rw c.before.before.i.given.1 c.below1.ensures
+returns : tie.Need-returns-in-Set
+returns c = rw c.before.before.i-1.given.1 c.below1.ensures
 
-returns-2 : tie.Need-returns-2
-returns-2 c = rw c.before.before.i2.given.1 c.below2.ensures
+returns-2 : tie.Need-returns-in-Copy
+returns-2 c = rw c.before.before.i-in-Copy-1.given.1 c.below2.ensures
 
-returns-3 : tie.Need-returns-3
-returns-3 c = rw c.before.before.i3.given.1 c.below3.ensures
+returns-3 : tie.Need-returns-in-Add
+returns-3 c = rw c.before.before.i-in-Add-1.given.1 c.below3.ensures
 
-returns-4 : tie.Need-returns-4
-returns-4 c = rw c.before.before.i4.given.1 c.below32.ensures
+returns-4 : tie.Need-returns-in-Sub
+returns-4 c = rw c.before.before.i-in-Sub-1.given.1 c.below3-in-Sub.ensures
 
-returns-5 : tie.Need-returns-5
-returns-5 c = rw c.before.before.i5.given.1 c.below33.ensures
+returns-5 : tie.Need-returns-in-Div
+returns-5 c = rw c.before.before.i-in-Div-1.given.1 c.below3-in-Div.ensures
 
-returns-6 : tie.Need-returns-6
-returns-6 c = rw c.before.before.i6.given.1 c.below12.ensures
+returns-6 : tie.Need-returns-in-Read
+returns-6 c = rw c.before.before.i-in-Read-1.given.1 c.below1-in-Read.ensures
 
-returns-7 : tie.Need-returns-7
-returns-7 c = rw c.before.before.i7.given.1 c.below13.ensures
+returns-7 : tie.Need-returns-in-Emit
+returns-7 c = rw c.before.before.i-in-Emit-1.given.1 c.below1-in-Emit.ensures
 
-returns-8 : tie.Need-returns-8
-returns-8 c = rw c.before.before.i8.given.1 c.below22.ensures
+returns-8 : tie.Need-returns-in-Less
+returns-8 c = rw c.before.before.i-in-Less-1.given.1 c.below2-in-Less.ensures
 
-returns-9 : tie.Need-returns-9
-returns-9 c = rw c.before.before.i9.given.1 c.below23.ensures
+returns-9 : tie.Need-returns-in-Get
+returns-9 c = rw c.before.before.i-in-Get-1.given.1 c.below2-in-Get.ensures
 
-returns-10 : tie.Need-returns-10
-returns-10 c = rw c.before.before.i10.given.1 c.below24.ensures
+returns-10 : tie.Need-returns-in-Put
+returns-10 c = rw c.before.before.i-in-Put-1.given.1 c.below2-in-Put.ensures
 
 -- the instructions that the default arm is left with
 abbrev others : List ℕ
@@ -125,11 +125,11 @@ other n (Put base len i a) k = absurd (none_of others 11 tt k)
 other n Exclude k = refl
 other n Checkpoint k = refl
 
-returns-11 : tie.Need-returns-11
-returns-11 c = other c.before.args.n c.before.args.i c.match.keys11
+returns-11 : tie.Need-returns-in_default
+returns-11 c = other c.before.args.n c.before.args.i c.in_default.keys11
 
-pub cells-exist-spec : {M : Type 1} → statement M
-cells-exist-spec =
+pub cells_exist_spec : {M : Type 1} → statement M
+cells_exist_spec =
     tie.close
     (tie.spec
     enum-known-i

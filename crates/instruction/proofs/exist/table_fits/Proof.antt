@@ -15,23 +15,23 @@ use borrow.Author.Rules.{rules}
 use Rattle.instruction.proofs.exist.table_fits.Statement.{statement}
 use Rattle.instruction.proofs.exist.table_fits.Tie as tie
 
-enum-known-i : tie.Need-enum-known-i
+enum-known-i : tie.Need-enum_known-i
 enum-known-i c = search rules
 
-fits-in-requires : tie.Need-fits-in-requires
+fits-in-requires : tie.Need-fits_in-requires
 fits-in-requires c κs = search rules
 
-enum-known-i-2 : tie.Need-enum-known-i-2
+enum-known-i-2 : tie.Need-enum_known-i-in-Put-1
 enum-known-i-2 c = search rules
 
-fits-in-requires-2 : tie.Need-fits-in-requires-2
+fits-in-requires-2 : tie.Need-fits_in-requires-in-Put
 fits-in-requires-2 c κs = search rules
 
-returns : tie.Need-returns
-returns c = rw c.before.before.i.given.1 (c.fits_in.ensures ∙ sym (and-true _))
+returns : tie.Need-returns-in-Get
+returns c = rw c.before.before.i-1.given.1 (c.fits_in.ensures ∙ sym (and-true _))
 
-returns-2 : tie.Need-returns-2
-returns-2 c = rw c.before.before.i2.given.1 c.fits-in2.ensures
+returns-2 : tie.Need-returns-in-Put
+returns-2 c = rw c.before.before.i-in-Put-1.given.1 c.fits_in-in-Put.ensures
 
 -- the instructions that the default arm is left with
 abbrev others : List ℕ
@@ -53,11 +53,11 @@ other n (Put base len i a) k = absurd (none_of others 11 tt k)
 other n Exclude k = refl
 other n Checkpoint k = refl
 
-returns-3 : tie.Need-returns-3
-returns-3 c = other c.before.args.n c.before.args.i c.match.keys3
+returns-3 : tie.Need-returns-in_default
+returns-3 c = other c.before.args.n c.before.args.i c.in_default.keys3
 
-pub table-fits-spec : {M : Type 1} → statement M
-table-fits-spec =
+pub table_fits_spec : {M : Type 1} → statement M
+table_fits_spec =
     tie.close
     (tie.spec
     enum-known-i

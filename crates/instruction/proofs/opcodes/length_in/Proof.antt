@@ -6,14 +6,14 @@ use borrow.Author.Rules.{rules}
 use Rattle.instruction.proofs.opcodes.length_in.Statement.{statement}
 use Rattle.instruction.proofs.opcodes.length_in.Tie as tie
 
-element-copy-out-result : tie.Need-element-copy-out-result
+element-copy-out-result : tie.Need-bounds-table-opcode
 element-copy-out-result c = search rules
 
-cast-result : tie.Need-overflow-cast-result
+cast-result : tie.Need-overflow_cast-result-2
 cast-result c = omega (arith, c.before.requires c.before.args.opcode (search rules), length_most c.before.args.opcode)
 
 returns : tie.Need-returns
 returns c = c.before.requires c.before.args.opcode (search rules)
 
-pub length-in-spec : {M : Type 1} → statement M
-length-in-spec = tie.close (tie.spec element-copy-out-result cast-result returns)
+pub length_in_spec : {M : Type 1} → statement M
+length_in_spec = tie.close (tie.spec element-copy-out-result cast-result returns)

@@ -7,5 +7,5 @@ use Rattle.instruction.proofs.opcodes.length_table.Tie as tie
 returns : tie.Need-returns
 returns c = entries-right
 
-pub length-table-spec : {M : Type 1} → statement M
-length-table-spec = tie.close (tie.spec returns)
+pub length_table_spec : {M : Type 1} → statement M
+length_table_spec = tie.close (tie.spec returns)
