@@ -13,37 +13,100 @@ import re
 import sys
 
 WORD = r"[^\s(){}.;,@\"«»\[\]\\]+"
+PATH = re.compile(rf"(?<![\w.'\-])({WORD}|\((?:[^()\n]*)\))((?:\.{WORD})+)")
 
 
 def plain(name):
-    return re.sub("-+", "-", name.replace("_", "-"))
+    return re.sub("-+", "-", name.replace("_", "-")).lower()
 
 
-def places_of(it):
-    """The old name of each place, step and goal with its new one."""
-    places, steps = {}, {}
-    for (old, _, pair, *_), new in zip(it["places"], it["places_by_name"]):
-        places[plain(old)] = new
-        if pair[0]:
-            steps[plain(pair[0])] = pair[1]
-    goals = {}
-    for old, new in it["needs"]:
-        goals[plain(old)] = new
-    return places, steps, goals
+class Places:
+    """The places of a function: where each stands in the old chain of records and in the new one."""
+
+    def __init__(self, it):
+        self.it = it
+        self.old = [p[0] for p in it["places"]]
+        self.new = it["places_by_name"]
+        self.index = {plain(n): i for i, n in enumerate(self.old)}
+        self.parent = [None if p[1] is None else self.index[plain(p[1])] for p in it["places"]]
+        self.step_old = [plain(p[2][0]) for p in it["places"]]
+        self.arms = it["arms"]
+        self.args = {plain(o.split(".")[-1]): n.split(".")[-1] for o, n in it["args"] if o.startswith(".args")}
+        for o, n in it["args"]:
+            self.args.setdefault(plain(o.split(".")[-1]), n.split(".")[-1])
+        self.asked = {}
+        for (old, new), (place, _) in zip(it["needs"], it["asked_at"]):
+            self.asked[new] = self.index[plain(place)]
+        self.goals = {plain(o): n for o, n in it["needs"]}
+        self.loops = {plain(o): n for (o, n), _ in it["loops"]}
+        self.by_step = {}
+        for i, s in enumerate(self.step_old):
+            if s:
+                self.by_step.setdefault(s, set()).add(self.step_new(i))
+
+    def swallows(self, i):
+        """How many old places the new record of place i stands for, where it is that of an arm."""
+        arm = self.arms[i]
+        if arm is None:
+            return 0
+        return arm[1] if self.new[i] == "I" + arm[0][1:] else 0
+
+    def step_new(self, i):
+        n = self.new[i]
+        if self.arms[i] is not None or n.startswith("In"):
+            if n.startswith("In") and self.it["places"][i][2][0] in ("match",):
+                return "i" + n[1:]
+        return self.it["places"][i][2][1]
+
+    def up(self, i, n):
+        for _ in range(n):
+            if i is None:
+                return None
+            i = self.parent[i]
+        return i
+
+    def chain(self, i):
+        """The places of the new records from that of place i up, and how many each stands for."""
+        while i is not None:
+            d = self.swallows(i)
+            yield i, d
+            i = self.up(i, max(d, 1))
+
+    def field(self, p, a, rest):
+        """The new fields of old step a, seen from place p."""
+        for b, d in self.chain(p):
+            inside = [self.up(b, k) for k in range(max(d, 1))]
+            if a not in inside:
+                continue
+            if not d:
+                return [self.step_new(a)] + rest
+            best = None
+            for new, old, path in self.arms[b][2]:
+                if plain(old) == self.step_old[a] and rest[: len(path)] == path and (best is None or len(path) > len(best[1])):
+                    best = (new, path)
+            if best is None:
+                return None
+            return [self.arms[b][0], best[0]] + rest[len(best[1]):]
+        return None
+
+    def befores(self, p, t):
+        """How many new records stand between those of places p and t."""
+        for n, (b, _) in enumerate(self.chain(p)):
+            if b == t:
+                return n
+        return None
 
 
 def spec_parts(text):
     at = text.find("tie.spec")
     if at < 0:
         return None
-    head = text[:at]
-    tail = text[at + len("tie.spec"):]
+    head, tail = text[:at], text[at + len("tie.spec"):]
     depth, i = 0, 0
     while i < len(tail):
-        ch = tail[i]
-        if ch == "(":
+        if tail[i] == "(":
             depth += 1
-        elif ch == ")":
+        elif tail[i] == ")":
             if depth == 0:
                 break
             depth -= 1
@@ -51,52 +114,85 @@ def spec_parts(text):
     return head, tail[:i], tail[i:]
 
 
-PATH = re.compile(rf"(?<![\w.'\-])({WORD}|\([^()\n]*\)|\))((?:\.{WORD})+)")
+OF_START = ("args", "ranges", "requires", "well_formed", "pre", "fits", "good", "told", "shared")
 
 
-def args_of(it):
-    """The old name of each argument with its new one."""
-    return {plain(o.split(".")[-1]): n.split(".")[-1] for o, n in it["args"] if o.startswith(".args")}
+def walk(pl, kind, fields, said):
+    """The fields of a path from a record of that kind in the new names, and the kind where it ends.
 
-
-def walk(kind, fields, steps, args):
-    """The fields of a path from a record of that kind, renamed, and the kind of the record where it ends."""
-    out = []
-    for f in fields:
-        if kind == "place":
-            if f == "before":
-                out.append(f)
-                continue
-            if f in ("args", "ranges", "fits"):
-                kind = "args"
-                out.append(f)
-                continue
-            out.append(steps.get(plain(f), f))
-            kind = "step"
-        elif kind == "args":
-            out.append(args.get(plain(f), f))
-            kind = "value"
-        else:
+    A kind is ("place", i), ("args",), ("step",) or None where it is not known."""
+    if kind and kind[0] == "place":
+        i, n = kind[1], 0
+        while n < len(fields) and fields[n] == "before":
+            n += 1
+        at = pl.up(i, n)
+        rest = fields[n:]
+        if at is None:
+            said.append("path " + ".".join(fields))
+            return fields, None
+        if not rest:
+            k = pl.befores(i, at)
+            if k is None:
+                said.append("swallowed " + ".".join(fields))
+                return fields, ("place", at)
+            return ["before"] * k, ("place", at)
+        f = rest[0]
+        if f in ("args", "ranges", "fits"):
+            if len(rest) == 1:
+                return [f], ("args",)
+            return [f, pl.args.get(plain(rest[1]), rest[1])] + rest[2:], ("step",)
+        # a step of this place or of one before it
+        a = at
+        while a is not None and pl.step_old[a] != plain(f):
+            a = pl.parent[a]
+        if a is not None:
+            got = pl.field(i, a, rest[1:])
+            if got is None:
+                said.append("swallowed " + ".".join(fields))
+                return fields, ("step",)
+            return got, ("step",)
+        return rest, ("step",)
+    if kind and kind[0] == "args":
+        return [pl.args.get(plain(fields[0]), fields[0])] + fields[1:], ("step",)
+    if kind and kind[0] == "step":
+        return fields, ("step",)
+    out, done = [], False
+    for k, f in enumerate(fields):
+        if done:
             out.append(f)
-            kind = "value"
-    return out, kind
+        elif f == "before":
+            out.append(f)
+        elif f in ("args", "ranges", "fits"):
+            out.append(f)
+            if k + 1 < len(fields):
+                out.append(pl.args.get(plain(fields[k + 1]), fields[k + 1]))
+                out += fields[k + 2:]
+            return out, ("step",)
+        else:
+            names = pl.by_step.get(plain(f), set())
+            if len(names) == 1:
+                out.append(next(iter(names)))
+            else:
+                out.append(f)
+                if names:
+                    said.append("which " + f)
+            done = True
+    return out, None
 
 
 def turn(path, it, name):
     text = open(path, encoding="utf-8").read()
     if "tie.spec" not in text:
         return "no tie.spec"
-    places, steps, goals = places_of(it)
-    args = args_of(it)
-    loops = {plain(old): new for (old, new), _ in it["loops"]}
+    pl = Places(it)
     said = []
     lemma_goal, lemma_args = {}, {}
 
     def need(m):
         lemma, old, rest = m.group(1), m.group(2), m.group(3)
-        new = goals.get(plain(lemma)) or goals.get(plain(old))
+        new = pl.goals.get(plain(lemma)) or pl.goals.get(plain(old))
         if new is None:
-            for v in goals.values():
+            for v in pl.goals.values():
                 if plain(old) == plain(v):
                     new = v
         if new is None:
@@ -106,47 +202,75 @@ def turn(path, it, name):
         lemma_args[new] = rest
         return f"{lemma} : tie.Need-{new}{rest}"
 
-    parts = spec_parts(text)
-    head, given, tail = parts
+    head, given, tail = spec_parts(text)
     head = re.sub(rf"(?m)^({WORD}) : tie\.Need-({WORD})(.*)$", need, head)
     for l in given.split():
         if l not in lemma_goal.values() and not l.startswith(("invariant-", "decreases-")):
             said.append(f"gone {l}")
+    goal_of = {v: k for k, v in lemma_goal.items()}
+    returns = {}
+    for m in re.finditer(rf"(?m)^(?:abbrev )?({WORD}) : tie\.({WORD}) → tie\.({WORD})$", head):
+        if plain(m.group(3)) in pl.index:
+            returns[m.group(1)] = pl.index[plain(m.group(3))]
+    whole = {}
+    for m in re.finditer(rf"(?m)^module _ .*\(({WORD}) : tie\.({WORD})\)", head):
+        if plain(m.group(2)) in pl.index:
+            whole[m.group(1)] = ("place", pl.index[plain(m.group(2))])
+
+    blocks = re.split(r"(\n\n+)", head)
+    for i, block in enumerate(blocks):
+        if block.startswith("\n") or not block:
+            continue
+        kinds = dict(whole)
+        for l, g in goal_of.items():
+            m = re.search(rf"(?m)^\s*{re.escape(l)} (.*?)=", block)
+            if m and g in pl.asked:
+                words = m.group(1).split()
+                if words:
+                    kinds["c" if "c" in words else words[0]] = ("place", pl.asked[g])
+        for m in re.finditer(rf"\(({WORD}) : tie\.({WORD})\)", block):
+            if plain(m.group(2)) in pl.index:
+                kinds[m.group(1)] = ("place", pl.index[plain(m.group(2))])
+        m = re.search(rf"(?m)^(?:abbrev )?({WORD}) : tie\.({WORD}) →.*\n(?:.*\n)*?\1 ({WORD}) ", block)
+        if m and plain(m.group(2)) in pl.index:
+            kinds[m.group(3)] = ("place", pl.index[plain(m.group(2))])
+        out, last = [], 0
+        for m in PATH.finditer(block):
+            root, fields = m.group(1), m.group(2)[1:].split(".")
+            line = block[block.rfind("\n", 0, m.start()) + 1 : m.start()]
+            if line.startswith(("use ", "pub use ", "--")) or root in ("tie", "Rattle", "lib", "mir", "native", "borrow", "mathlib"):
+                continue
+            if root.startswith("("):
+                words = root[1:-1].split()
+                kind = ("place", returns[words[0]]) if words and words[0] in returns else None
+            else:
+                kind = kinds.get(root)
+            renamed, end = walk(pl, kind, fields, said)
+            if root.startswith("("):
+                inner = PATH.sub(lambda w: ".".join([w.group(1)] + walk(pl, kinds.get(w.group(1)), w.group(2)[1:].split("."), said)[0]), root)
+                root = inner
+            out.append(block[last : m.start()] + ".".join([root] + renamed))
+            last = m.end()
+            bound = re.search(rf"let ({WORD}) = $", block[: m.start()])
+            if bound and re.match(r"\s+in\b", block[m.end() :]):
+                kinds[bound.group(1)] = end
+        # a variable bound to what a helper gives
+        block = "".join(out) + block[last:]
+        blocks[i] = block
+    head = "".join(blocks)
 
     def place(m):
         w = m.group(1)
         for label in ("invariant-", "decreases-"):
-            if w.startswith(label) and plain(w[len(label):]) in loops:
-                return "tie." + label + loops[plain(w[len(label):])]
-        new = places.get(plain(w))
-        if new is None:
-            if not w.startswith("Need-") and w not in ("close", "spec"):
-                said.append(f"place {w}")
-            return m.group(0)
-        return "tie." + new
+            if w.startswith(label) and plain(w[len(label) :]) in pl.loops:
+                return "tie." + label + pl.loops[plain(w[len(label) :])]
+        if plain(w) in pl.index:
+            return "tie." + pl.new[pl.index[plain(w)]]
+        if not w.startswith("Need-") and w not in ("close", "spec"):
+            said.append(f"place {w}")
+        return m.group(0)
 
     head = re.sub(rf"(?<![\w.])tie\.({WORD})", place, head)
-
-    # one lemma at a time: a variable is a record of the kind that its `let` gives it
-    blocks = re.split(r"(\n\n+)", head)
-    for i, block in enumerate(blocks):
-        if block.startswith("use ") or block.startswith("\n"):
-            continue
-        kinds = {"tie": "value", "lib": "value", "Rattle": "value"}
-        out, last = [], 0
-        for m in PATH.finditer(block):
-            root, fields = m.group(1), m.group(2)[1:].split(".")
-            kind = kinds.get(root, "place")
-            if root.startswith("Rattle") or block.rfind("use ", 0, m.start()) > block.rfind("\n", 0, m.start()):
-                kind = "value"
-            renamed, end = walk(kind, fields, steps, args)
-            out.append(block[last:m.start()] + root + "." + ".".join(renamed))
-            last = m.end()
-            bound = re.search(rf"let ({WORD}) = $", block[: m.start()])
-            if bound and re.match(r"\s+in\b", block[m.end():]):
-                kinds[bound.group(1)] = end
-        blocks[i] = "".join(out) + block[last:]
-    head = "".join(blocks)
     order, extra = [l for l in given.split() if l.startswith(("invariant-", "decreases-"))], []
     for _, new in it["needs"]:
         if new in lemma_goal:
@@ -160,7 +284,7 @@ def turn(path, it, name):
         at = re.search(rf"(?m)^pub {WORD} : .*statement", head)
         if at is None:
             return "no statement"
-        head = head[: at.start()] + "\n".join(extra) + "\n" + head[at.start():]
+        head = head[: at.start()] + "\n".join(extra) + "\n" + head[at.start() :]
         if not re.search(r"(?m)^use .*\brules\b", head):
             head = re.sub(r"(?m)^use ", "use borrow.Author.Rules.{rules}\nuse ", head, count=1)
     head = re.sub(rf"(?m)^(pub )?({WORD})-spec( :.*statement)", lambda m: f"{m.group(1) or ''}{name}_spec{m.group(3)}", head)
@@ -175,7 +299,6 @@ def main(names, crate):
     for key, value in it.items():
         m = re.match(r"Rattle-[^.]*-proofs\.(.*)\.Lts", key)
         if not m:
-            print("key", key)
             continue
         path = os.path.join(crate, "proofs", *m.group(1).split("."), "Proof.antt")
         if not os.path.exists(path):

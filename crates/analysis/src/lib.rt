@@ -16,7 +16,7 @@ use program::{Checked, check};
 use region::exclude_sets;
 
 // The answer of `analyse`; `answer_of` of specs/Analyse.antt gives document 01's number and values.
-#[derive(Drop)]
+#[derive(Clone, Copy)]
 pub enum Analysed {
     Sets {
         cells: u32,

@@ -11,7 +11,7 @@ ghost use Rattle.cellset.specs.Sets.{SetIs};
 
 const ALL: u64 = 0xffff_ffff_ffff_ffff;
 
-#[derive(Drop)]
+#[derive(Clone, Copy)]
 pub struct CellSet {
     pub words: [u64; 4],
 }

@@ -24,14 +24,14 @@ use program::{Checked, examine};
 
 // The answer: how many bytes of the save now stand on the new chip and whether these are all, or why not.
 // `answer_of` of specs/Fold.antt gives document 02's number.
-#[derive(Drop)]
+#[derive(Clone, Copy)]
 pub enum Folded {
     Stored { stored: usize, finished: bool },
     Refused(u32),
 }
 
 // A save: the first `size` bytes of a buffer.
-#[derive(Drop)]
+#[derive(Clone, Copy)]
 struct Save {
     bytes: [u8; 1584],
     size: usize,

@@ -60,7 +60,7 @@ pub fn may_ref(i: Instruction) -> CellSet
 }
 
 // The cells from `base` on, `len` of them.
-#[derive(Drop)]
+#[derive(Clone, Copy)]
 struct Span {
     base: u8,
     len: u8,

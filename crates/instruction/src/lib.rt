@@ -11,7 +11,7 @@ pub mod opcodes;
 pub use decode::{byte_at, instruction_at};
 
 // An instruction (document 01: a command), decoded. A value is its 32-bit pattern.
-#[derive(Drop)]
+#[derive(Clone, Copy)]
 pub enum Instruction {
     End,
     Set { d: u8, v: u32 },
@@ -30,7 +30,7 @@ pub enum Instruction {
 }
 
 // Where an instruction may go: nowhere, on, to an offset, or to an offset or on.
-#[derive(Drop)]
+#[derive(Clone, Copy)]
 pub enum Flow {
     Halt,
     Next,

@@ -38,7 +38,7 @@ pub const ERASED: u8 = 0xff;
 // What a checkpoint ends with (document 01: its MARK): the offset after the CHECKPOINT, that of the last
 // EXCLUDE executed or 0, the readings taken and the outputs given; and the owner, the number by which a MARK of
 // kind 1 names its plan (document 02, Q-8). A MARK of kind 0 names none: 0.
-#[derive(Drop)]
+#[derive(Clone, Copy)]
 pub struct Commit {
     pub place: u16,
     pub exclude: u16,
@@ -50,7 +50,7 @@ pub struct Commit {
 // What a journal reads as: of a length that no chip has; damaged; or where its whole checkpoints end, how
 // many bytes are to be erased behind them, the last commit, or offset 1 and zeros if there is none, and
 // whether every whole commit has the owner asked for.
-#[derive(Drop)]
+#[derive(Clone, Copy)]
 pub enum Scanned {
     BadLength,
     Damaged,
@@ -63,7 +63,7 @@ pub enum Scanned {
 }
 
 // The answer, and each cell's last saved value, or 0; all 0 where the journal is refused.
-#[derive(Drop)]
+#[derive(Clone, Copy)]
 pub struct Contents {
     pub answer: Scanned,
     pub values: [u32; 256],

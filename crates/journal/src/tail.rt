@@ -10,7 +10,7 @@ use crate::records::cell_begins;
 use crate::{Commit, MARK, RECORD};
 
 // A whole commit, so that the checkpoint is whole; what a checkpoint that is cut leaves; neither.
-#[derive(Drop)]
+#[derive(Clone, Copy)]
 pub enum Tail {
     Whole,
     Cut,

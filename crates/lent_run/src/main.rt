@@ -15,7 +15,7 @@ use run::Ended;
 use step::{Regs, State};
 
 // What the calls of a power-up answer, and the state that each leaves.
-#[derive(Drop)]
+#[derive(Clone, Copy)]
 struct Powered {
     recovered: Recovered,
     found: State,

@@ -14,7 +14,7 @@ use step::State;
 
 // What a call of step or run answers: how the run ended, and this call's steps, readings taken and
 // outputs written.
-#[derive(Drop)]
+#[derive(Clone, Copy)]
 pub struct Passed {
     pub ended: Ended,
     pub steps: u64,

@@ -9,7 +9,7 @@ ghost use Rattle.marks.specs.Marks.{byte_of, mark_of, excluded, recovered, saved
 
 use cellset::CellSet;
 
-#[derive(Drop)]
+#[derive(Clone, Copy)]
 pub enum Mark {
     Include,
     Pending,

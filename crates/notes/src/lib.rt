@@ -25,7 +25,7 @@ use recovery::damaged_as;
 
 // The answer: whether a note may stand at the place, or why the chip is not read. `answer_of` of specs/Notes.antt
 // gives document 02's number.
-#[derive(Drop)]
+#[derive(Clone, Copy)]
 pub enum Told {
     May(bool),
     Refused(u32),

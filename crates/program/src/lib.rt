@@ -19,7 +19,7 @@ use places::{blank, clear, place_from};
 use rules::{refusal_at, same_byte};
 
 // The answer of `check`; `answer_of` of specs/Check.antt gives document 01's number and values.
-#[derive(Drop)]
+#[derive(Clone, Copy)]
 pub enum Checked {
     Program {
         cells: u32,
@@ -31,7 +31,7 @@ pub enum Checked {
 
 // What the walk over all instructions finds: their numbers, the last opcode and how many targets were
 // noted, or a refusal.
-#[derive(Drop)]
+#[derive(Clone, Copy)]
 enum Walked {
     All {
         instructions: u32,

@@ -9,7 +9,7 @@ use instruction::opcodes::{CHECKPOINT, EXCLUDE};
 
 // What stands at an offset: whether an instruction starts there, whether it is the offset after a
 // CHECKPOINT, and of an EXCLUDE its number and 1, else 0.
-#[derive(Drop)]
+#[derive(Clone, Copy)]
 pub struct Place {
     pub start: bool,
     pub after: bool,

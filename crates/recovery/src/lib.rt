@@ -19,14 +19,14 @@ use program::{Checked, examine};
 use step::{Regs, State};
 
 // The answer: the state is restored, or why not. `answer_of` of specs/Recover.antt gives document 01's number.
-#[derive(Drop)]
+#[derive(Clone, Copy)]
 pub enum Recovered {
     Restored,
     Refused(u32),
 }
 
 // What recovery gives back: the state, and the answer.
-#[derive(Drop)]
+#[derive(Clone, Copy)]
 pub struct Recovery {
     pub state: State,
     pub answer: Recovered,

@@ -19,7 +19,7 @@ use step::sound::sound;
 use step::{Regs, State};
 
 // How a run ended: refused, stopped with its kind, budget spent, no reading left, output buffer full.
-#[derive(Drop)]
+#[derive(Clone, Copy)]
 pub enum Ended {
     Refused(u32),
     Stopped(u32),
@@ -29,7 +29,7 @@ pub enum Ended {
 }
 
 // Where a run stands: its registers, steps, readings taken and outputs written.
-#[derive(Drop)]
+#[derive(Clone, Copy)]
 pub struct Pass {
     pub regs: Regs,
     pub steps: u64,
@@ -38,7 +38,7 @@ pub struct Pass {
 }
 
 // Where a run ended, and how.
-#[derive(Drop)]
+#[derive(Clone, Copy)]
 pub struct Stand {
     pub pass: Pass,
     pub ended: Ended,
@@ -46,7 +46,7 @@ pub struct Stand {
 
 // What a call of run gives back: the state, how the run ended, and this call's steps, readings taken and
 // outputs written.
-#[derive(Drop)]
+#[derive(Clone, Copy)]
 pub struct Ran {
     pub state: State,
     pub ended: Ended,

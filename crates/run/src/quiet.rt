@@ -14,7 +14,7 @@ use instruction::opcodes::{EMIT, READ};
 use word::{from_bits, to_bits};
 
 // Where the inner loop stands: the place, and its steps, readings taken and outputs written.
-#[derive(Drop)]
+#[derive(Clone, Copy)]
 pub struct Flow {
     pub pc: u32,
     pub steps: u64,

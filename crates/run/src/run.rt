@@ -21,7 +21,7 @@ use step::{Regs, step};
 use word::from_bits;
 
 // An exit before a step, or none.
-#[derive(Drop)]
+#[derive(Clone, Copy)]
 enum Exit {
     Stopped(u32),
     Spent,

@@ -30,7 +30,7 @@ use word::to_bits;
 // than the bytes stored of the save at work. The last two are no part of the state that a host lends: they
 // say for which kind of chip the call is, by the bytes that a step stores or erases, 1 for the byte chip and
 // 16 for the page chip, and the owner that its MARKs name, 0 for the MARKs of document 01, which name none.
-#[derive(Drop)]
+#[derive(Clone, Copy)]
 pub struct Regs {
     pub pc: u32,
     pub exclude: u32,
@@ -45,7 +45,7 @@ pub struct Regs {
 }
 
 // The state: the registers, the cells' patterns and their marks' bytes.
-#[derive(Drop)]
+#[derive(Clone, Copy)]
 pub struct State {
     pub regs: Regs,
     pub cells: [u32; 256],

@@ -14,7 +14,7 @@ element-copy-out-result-2 c = search rules
 
 add-result : tie.Need-overflow_add-result
 add-result c =
-    let few = ones-few c.before.before.args.a.words (λ i. search rules) in
+    let few = ones-few c.args.a.words (λ i. search rules) in
     record { fits = omega (arith, few 0, few 1) }
 
 element-copy-out-result-3 : tie.Need-bounds-a-2
@@ -22,7 +22,7 @@ element-copy-out-result-3 c = search rules
 
 add-result-2 : tie.Need-overflow_add-result-2
 add-result-2 c =
-    let few = ones-few c.before.before.before.args.a.words (λ i. search rules) in
+    let few = ones-few c.args.a.words (λ i. search rules) in
     record { fits = omega (arith, few 0, few 1, few 2) }
 
 element-copy-out-result-4 : tie.Need-bounds-a-3
@@ -30,11 +30,11 @@ element-copy-out-result-4 c = search rules
 
 add-result-3 : tie.Need-overflow_add-result-3
 add-result-3 c =
-    let few = ones-few c.before.before.before.before.args.a.words (λ i. search rules) in
+    let few = ones-few c.args.a.words (λ i. search rules) in
     record { fits = omega (arith, few 0, few 1, few 2, few 3) }
 
 returns : tie.Need-returns
-returns c = counted c.before.before.before.before.args.a.words (λ i. search rules)
+returns c = counted c.args.a.words (λ i. search rules)
 
 pub count_spec : {M : Type 1} → statement M
 count_spec =

@@ -35,7 +35,7 @@ element-copy-out-t34 c = search rules
 
 returns : tie.Need-returns
 returns c =
-    let a = c.before.before.before.before.before.before.before.before.args in
+    let a = c.args in
     wordwise (λ u v. bit_and u ((2 ^ 64 - 1) - v)) ◌-◌ (λ u v h _. and_lt 64 u _ h (ones_sub-lt 64 v)) (bit-less 64)
     a.a.words a.b.words (λ i. search rules) (λ i. search rules)
 

@@ -24,7 +24,7 @@ shr-result c = search rules
 
 returns : tie.Need-returns
 returns c =
-    let a = c.before.args in
+    let a = c.args in
     test_bit (get_or a.words.now (a.c / 64) 0) (a.c % 64)
 
 pub is_in_spec : {M : Type 1} → statement M

@@ -10,13 +10,13 @@ use Rattle.cellset.proofs.low_part.Statement.{statement}
 use Rattle.cellset.proofs.low_part.Tie as tie
 
 returns : tie.Need-returns-then-n-first
-returns c = λ k l. low_bits 0 c.before.args.n c.before.args.first k (omega arith) l
+returns c = λ k l. low_bits 0 c.args.n c.args.first k (omega arith) l
 
 sub-if2 : tie.Need-overflow_sub-n
 sub-if2 c = search rules
 
 returns-2 : tie.Need-returns-then-n-first-ge64
-returns-2 c = λ k l. low_bits 64 c.before.before.args.n c.before.before.args.first k (omega arith) l
+returns-2 c = λ k l. low_bits 64 c.args.n c.args.first k (omega arith) l
 
 sub-result : tie.Need-overflow_sub-result
 sub-result c = search rules
@@ -26,12 +26,12 @@ shl-result c = search rules
 
 sub-result-2 : tie.Need-overflow_sub-result-2
 sub-result-2 c =
-    let a = c.before.before.args in
+    let a = c.args in
     shifted-pos (a.n - a.first) c.if-n-first-ge64.false
 
 returns-3 : tie.Need-returns
 returns-3 c = λ k l.
-    let a = c.before.before.args in
+    let a = c.args in
     ap (λ (x : ℕ). bit (x - 1) k) (shifted (a.n - a.first) c.if-n-first-ge64.false) ∙ low_bits (a.n - a.first) a.n a.first k (omega arith) l
 
 pub low_part_spec : {M : Type 1} → statement M

@@ -41,36 +41,36 @@ nth-bit-requires c κs = search rules
 returns : tie.Need-returns-then-left-n invariant-loop decreases-loop
 returns c =
     let b = c.before.before.before.before.before in
-    let a = b.before.args in
-    wanted-here a.a.words (λ i. search rules) a.k b.loop-i.i b.loop-i.left b.loop-i.invariant c.before.before.before.before.loop-i-test.true
-    c.nth_bit.result c.before.before.if-left-n.true c.nth_bit.ensures
+    let a = b.args in
+    wanted-here a.a.words (λ i. search rules) a.k b.loop-i.i b.loop-i.left b.loop-i.invariant c.loop-i-test.true
+    c.nth_bit.result c.if-left-n.true c.nth_bit.ensures
 
 add-result : tie.Need-overflow_add-result invariant-loop decreases-loop
 add-result c =
     let b = c.before.before.before.before.before in
-    record { fits = omega (arith, returns c, nth-below b.before.args.a.words b.before.args.k) }
+    record { fits = omega (arith, returns c, nth-below b.args.a.words b.args.k) }
 
 cast-result-2 : tie.Need-overflow_cast-result-then-left-n invariant-loop decreases-loop
 cast-result-2 c =
     let b = c.before.before.before.before.before in
-    record { fits = omega (arith, returns c, nth-below b.before.args.a.words b.before.args.k) }
+    record { fits = omega (arith, returns c, nth-below b.args.a.words b.args.k) }
 
 add-i : tie.Need-overflow_add-i invariant-loop decreases-loop
 add-i c = search rules
 
 loop-less : tie.Need-loop-i-smaller invariant-loop decreases-loop
-loop-less c = omega (arith, c.before.before.loop-i-test.true)
+loop-less c = omega (arith, c.loop-i-test.true)
 
 loop-again : tie.Need-loop-i-preserved invariant-loop decreases-loop
 loop-again c =
     let b = c.before.before.before in
-    let a = b.before.args in
-    wanted-turn a.a.words (λ i. search rules) a.k b.loop-i.i b.loop-i.left b.loop-i.invariant c.before.before.loop-i-test.true c.if-left-n.false
+    let a = b.args in
+    wanted-turn a.a.words (λ i. search rules) a.k b.loop-i.i b.loop-i.left b.loop-i.invariant c.loop-i-test.true c.if-left-n.false
 
 returns-2 : tie.Need-returns invariant-loop decreases-loop
 returns-2 c =
     let b = c.before in
-    let a = b.before.args in
+    let a = b.args in
     wanted-done a.a.words a.k b.loop-i.i b.loop-i.left b.loop-i.invariant c.loop-i-test.false
 
 pub nth_spec : {M : Type 1} → statement M

@@ -17,29 +17,29 @@ loop-holds c = refl
 
 returns : tie.Need-returns-then-rest-eq0 invariant-loop decreases-loop
 returns c =
-    let a = c.before.before.before.args in
-    let l = c.before.before.loop-left in
+    let a = c.args in
+    let l = c.loop-left in
     sought-none a.w a.k l.rest l.left l.invariant c.if-rest-eq0.true
 
 sub-rest : tie.Need-overflow_sub-rest invariant-loop decreases-loop
 sub-rest c = omega (arith, c.if-rest-eq0.false)
 
 sub-left : tie.Need-overflow_sub-left invariant-loop decreases-loop
-sub-left c = omega (arith, c.before.loop-left-test.true)
+sub-left c = omega (arith, c.loop-left-test.true)
 
 loop-less : tie.Need-loop-left-smaller invariant-loop decreases-loop
-loop-less c = omega (arith, c.before.loop-left-test.true)
+loop-less c = omega (arith, c.loop-left-test.true)
 
 loop-again : tie.Need-loop-left-preserved invariant-loop decreases-loop
 loop-again c =
-    let a = c.before.before.before.args in
-    let l = c.before.before.loop-left in
-    sought-turn a.w a.k l.rest l.left l.invariant c.before.loop-left-test.true
+    let a = c.args in
+    let l = c.loop-left in
+    sought-turn a.w a.k l.rest l.left l.invariant c.loop-left-test.true
 
 returns-2 : tie.Need-returns invariant-loop decreases-loop
 returns-2 c =
-    let a = c.before.before.args in
-    let l = c.before.loop-left in
+    let a = c.args in
+    let l = c.loop-left in
     sought-done a.w a.k l.rest l.left l.invariant c.loop-left-test.false
 
 pub nth_bit_spec : {M : Type 1} → statement M

@@ -15,8 +15,8 @@ low-part-requires-2 c κs = search rules
 
 returns : tie.Need-returns
 returns c = λ k l.
-    let a = c.before.before.args in
-    bit-less 64 k _ _ (search rules) l ∙ ap₂ ◌-◌ (c.before.low_part.ensures k l) (c.low_part-2.ensures k l) ∙ within-less a.lo a.hi (a.first + k)
+    let a = c.args in
+    bit-less 64 k _ _ (search rules) l ∙ ap₂ ◌-◌ (c.low_part.ensures k l) (c.low_part-2.ensures k l) ∙ within-less a.lo a.hi (a.first + k)
 
 pub part_spec : {M : Type 1} → statement M
 part_spec = tie.close (tie.spec low-part-requires low-part-requires-2 returns)

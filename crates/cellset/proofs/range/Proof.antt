@@ -20,9 +20,9 @@ part-requires-4 c κs = search rules
 returns : tie.Need-returns
 returns c =
     four-words
-    (record { fits = search rules; cells = c.before.before.before.part.ensures })
-    (record { fits = search rules; cells = c.before.before.part-2.ensures })
-    (record { fits = search rules; cells = c.before.part-3.ensures })
+    (record { fits = search rules; cells = c.part.ensures })
+    (record { fits = search rules; cells = c.part-2.ensures })
+    (record { fits = search rules; cells = c.part-3.ensures })
     (record { fits = search rules; cells = c.part-4.ensures })
 
 pub range_spec : {M : Type 1} → statement M

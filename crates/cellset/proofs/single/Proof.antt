@@ -14,7 +14,7 @@ range-requires : tie.Need-range-requires
 range-requires c κs = search rules
 
 returns : tie.Need-returns
-returns c = set-ext c.range.ensures (λ k l. sym (is_within c.before.args.a k))
+returns c = set-ext c.range.ensures (λ k l. sym (is_within c.args.a k))
 
 pub single_spec : {M : Type 1} → statement M
 single_spec = tie.close (tie.spec add-range range-requires returns)

@@ -57,7 +57,7 @@ same_length c = search rules
 
 returns : tie.Need-returns
 returns c =
-    let a = c.before.before.before.before.args in
+    let a = c.args in
     stored a.ws.now a.at a.s.words (search rules)
 
 pub store_spec : {M : Type 1} → statement M

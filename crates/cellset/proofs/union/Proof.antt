@@ -34,7 +34,7 @@ element-copy-out-t31 c = search rules
 
 returns : tie.Need-returns
 returns c =
-    let a = c.before.before.before.before.before.before.before.before.args in
+    let a = c.args in
     wordwise bit_or max (or_lt 64) (λ k u v _ _. bit-or u v k)
     a.a.words a.b.words (λ i. search rules) (λ i. search rules)
 

@@ -9,47 +9,47 @@ use borrow.Author.Rules.{rules}
 use Rattle.liveness.proofs.settle.Statement.{statement}
 use Rattle.liveness.proofs.settle.Tie as tie
 
-slice-aggregate-thread : tie.Need-slice-aggregate-thread
+slice-aggregate-thread : tie.Need-slice_bounds-thread-end
 slice-aggregate-thread c = search rules
 
-slice-aggregate-thread-2 : tie.Need-slice-aggregate-thread-2
+slice-aggregate-thread-2 : tie.Need-slice_bounds-thread-end-2
 slice-aggregate-thread-2 c = search rules
 
 thread-requires : tie.Need-thread-requires
 thread-requires c κs =
-    let w = c.before.before.before.before.before.before.before.requires.0 in
+    let w = c.requires.0 in
     threads 512 w w.few
 
-slice-aggregate-push-all : tie.Need-slice-aggregate-push-all
+slice-aggregate-push-all : tie.Need-slice_bounds-push_all-end
 slice-aggregate-push-all c = search rules
 
-slice-aggregate-push-all-2 : tie.Need-slice-aggregate-push-all-2
+slice-aggregate-push-all-2 : tie.Need-slice_bounds-push_all-end-2
 slice-aggregate-push-all-2 c = search rules
 
-push-all-requires : tie.Need-push-all-requires
+push-all-requires : tie.Need-push_all-top-requires
 push-all-requires c κs =
-    let w = c.before.before.before.before.before.before.before.before.before.before.before.before.requires.0 in
+    let w = c.requires.0 in
     (queue-fresh _ 512 w.few, w)
 
 fill-requires : tie.Need-fill-requires
 fill-requires c κs = search rules
 
-slice-aggregate-drain : tie.Need-slice-aggregate-drain
+slice-aggregate-drain : tie.Need-slice_bounds-drain-end
 slice-aggregate-drain c = search rules
 
-array-share-prefix-links : tie.Need-array-share-prefix-links
+array-share-prefix-links : tie.Need-slice_bounds-links-end
 array-share-prefix-links c = search rules
 
-slice-aggregate-drain-2 : tie.Need-slice-aggregate-drain-2
+slice-aggregate-drain-2 : tie.Need-slice_bounds-drain-end-2
 slice-aggregate-drain-2 c =
     let t = c.before.before.before.before.before.before.before.before.before.before.before.before.before in
     let s = t.before.before.before.before.before.before.before.before in
     sym (length-take-le (length s.args.left.now) t.thread.new.1.1.0 (omega (arith, s.requires.0.few, t.thread.auto.1.1.0)))
 
-slice-aggregate-drain-3 : tie.Need-slice-aggregate-drain-3
+slice-aggregate-drain-3 : tie.Need-slice_bounds-drain-end-3
 slice-aggregate-drain-3 c = search rules
 
-slice-aggregate-drain-4 : tie.Need-slice-aggregate-drain-4
+slice-aggregate-drain-4 : tie.Need-slice_bounds-drain-end-4
 slice-aggregate-drain-4 c = search rules
 
 drain-requires : tie.Need-drain-requires
@@ -58,18 +58,18 @@ drain-requires c κs =
     let p = f.before.before.before.before in
     let t = p.before.before.before.before.before in
     let s = t.before.before.before.before.before.before.before.before in (
-      begun s.requires.0 t.thread.auto.1.0 t.thread.auto.1.1.0 t.thread.ensures p.push-all.ensures.0 p.push-all.ensures.1,
+      begun s.requires.0 t.thread.auto.1.0 t.thread.auto.1.1.0 t.thread.ensures p.push_all-top.ensures.0 p.push_all-top.ensures.1,
       rooms-full s.requires.1 f.fill.ensures,
     )
 
-same_length : tie.Need-same-length
+same_length : tie.Need-shape_of-dead
 same_length c = search rules
 
 returns : tie.Need-returns
-returns c = settled c.before.before.before.before.before.before.before.before.before.before.before.before.fill.ensures c.before.before.before.before.drain.ensures
+returns c = settled c.fill.ensures c.drain.ensures
 
-pub settle-spec : {M : Type 1} → statement M
-settle-spec =
+pub settle_spec : {M : Type 1} → statement M
+settle_spec =
     tie.close
     (tie.spec
     slice-aggregate-thread

@@ -7,44 +7,44 @@ use Rattle.liveness.proofs.Turns.{unchanged, changed}
 use Rattle.liveness.proofs.turn.Statement.{statement}
 use Rattle.liveness.proofs.turn.Tie as tie
 
-mul-load : tie.Need-overflow-mul-load
+mul-load : tie.Need-overflow_mul-i
 mul-load c = search rules
 
-load-requires : tie.Need-load-requires
+load-requires : tie.Need-load-old-requires
 load-requires c κs = search rules
 
-met-requires : tie.Need-met-requires
+met-requires : tie.Need-met-new-requires
 met-requires c κs = search rules
 
 equal-requires : tie.Need-equal-requires
 equal-requires c κs = search rules
 
-same_length : tie.Need-same-length
+same_length : tie.Need-shape_of-dead-then-equal
 same_length c = search rules
 
-returns : tie.Need-returns
+returns : tie.Need-returns-then-equal
 returns c =
-    unchanged c.before.before.before.before.load.ensures c.before.before.met.ensures (c.before.equal.ensures.0 c.if1.true)
+    unchanged c.load.ensures c.met-new.ensures (c.equal.ensures.0 c.if-equal.true)
 
-mul-store : tie.Need-overflow-mul-store
+mul-store : tie.Need-overflow_mul-i-2
 mul-store c = search rules
 
 store-requires : tie.Need-store-requires
 store-requires c κs = search rules
 
-same-length-2 : tie.Need-same-length-2
+same-length-2 : tie.Need-shape_of-dead
 same-length-2 c = search rules
 
-returns-2 : tie.Need-returns-2
+returns-2 : tie.Need-returns
 returns-2 c =
     let c₁ = c.before.before.before.before in
     let c₀ = c₁.before.before.before.before in
     changed
     c₀.load.ensures
-    c₁.before.before.met.ensures
+    c₁.met-new.ensures
     c₀.before.before.before.before.before.requires.0
-    c.before.before.store.ensures
-    (λ e. false≢true (sym c₁.if1.false ∙ c₁.before.equal.ensures.1 e))
+    c.store.ensures
+    (λ e. false≢true (sym c₁.if-equal.false ∙ c₁.equal.ensures.1 e))
 
 pub turn_spec : {M : Type 1} → statement M
 turn_spec =

@@ -51,12 +51,12 @@ loop-less c = omega arith
 loop-again : tie.Need-loop-c-preserved invariant-loop decreases-loop
 loop-again c = (
   omega arith,
-  excluded-turn _ _ _ _ _ c.before.before.before.before.before.before.before.loop-c.invariant.1 c.before.before.before.before.before.in_set-de.ensures
-      c.before.before.before.before.in_set-ro.ensures c.before.before.from_byte.ensures c.before.exclude_mark.ensures c.to_byte.ensures,
+  excluded-turn _ _ _ _ _ c.loop-c.invariant.1 c.in_set-de.ensures
+      c.in_set-ro.ensures c.from_byte.ensures c.exclude_mark.ensures c.to_byte.ensures,
 )
 
 returns : tie.Need-returns invariant-loop decreases-loop
-returns c = let e : c.before.loop-c.c ≡ c.before.before.before.args.n = omega arith in rw (← e) c.before.loop-c.invariant.1
+returns c = let e : c.loop-c.c ≡ c.args.n = omega arith in rw (← e) c.loop-c.invariant.1
 
 pub exclude_spec : {M : Type 1} → statement M
 exclude_spec =

@@ -5,16 +5,16 @@ use Rattle.marks.proofs.from_byte.Statement.{statement}
 use Rattle.marks.proofs.from_byte.Tie as tie
 
 returns : tie.Need-returns-in-0
-returns c = rw c.in_default.keys1
+returns c = rw c.in-0.is
 
 returns-2 : tie.Need-returns-in-1
-returns-2 c = rw c.in_default.keys2
+returns-2 c = rw c.in-1.is
 
 returns-3 : tie.Need-returns-in-2
-returns-3 c = rw c.in_default.keys3
+returns-3 c = rw c.in-2.is
 
 returns-4 : tie.Need-returns-in_default
-returns-4 c = rw (ne_eqb _ _ c.in_default.rest.0.0.1, ne_eqb _ _ c.in_default.rest.0.1, ne_eqb _ _ c.in_default.rest.1)
+returns-4 c = rw (ne_eqb _ _ c.in_default.in_default-own.rest.0.0.1, ne_eqb _ _ c.in_default.in_default-own.rest.0.1, ne_eqb _ _ c.in_default.in_default-own.rest.1)
 
 pub from_byte_spec : {M : Type 1} → statement M
 from_byte_spec = tie.close (tie.spec returns returns-2 returns-3 returns-4)

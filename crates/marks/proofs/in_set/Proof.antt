@@ -25,7 +25,7 @@ shr-result c = search rules
 returns : tie.Need-returns
 unfolding bit
 returns c =
-    let a = c.before.args in
+    let a = c.args in
     ap (λ (n : ℕ). eqb n 1) (and_mask (get_or a.ws.now (a.at + a.c / 64) 0 / 2 ^ (a.c % 64)) 1)
 
 pub in_set_spec : {M : Type 1} → statement M

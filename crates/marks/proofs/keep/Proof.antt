@@ -42,12 +42,12 @@ loop-less c = omega arith
 loop-again : tie.Need-loop-c-preserved invariant-loop decreases-loop
 loop-again c = (
   omega arith,
-  saved-turn _ _ _ c.before.before.before.before.before.loop-c.invariant.1 c.before.before.from_byte.ensures c.before.save_mark.ensures
+  saved-turn _ _ _ c.loop-c.invariant.1 c.from_byte.ensures c.save_mark.ensures
       c.to_byte.ensures,
 )
 
 returns : tie.Need-returns invariant-loop decreases-loop
-returns c = let e : c.before.loop-c.c ≡ c.before.before.args.n = omega arith in rw (← e) c.before.loop-c.invariant.1
+returns c = let e : c.loop-c.c ≡ c.args.n = omega arith in rw (← e) c.loop-c.invariant.1
 
 pub keep_spec : {M : Type 1} → statement M
 keep_spec =

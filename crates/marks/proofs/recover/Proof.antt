@@ -45,12 +45,12 @@ loop-less c = omega arith
 loop-again : tie.Need-loop-c-preserved invariant-loop decreases-loop
 loop-again c = (
   omega arith,
-  recovered-turn _ _ _ _ _ c.before.before.before.before.before.loop-c.invariant.1 c.before.before.before.in_set-de.ensures
-      c.before.before.in_set-ro.ensures c.before.recovered_mark.ensures c.to_byte.ensures,
+  recovered-turn _ _ _ _ _ c.loop-c.invariant.1 c.in_set-de.ensures
+      c.in_set-ro.ensures c.recovered_mark.ensures c.to_byte.ensures,
 )
 
 returns : tie.Need-returns invariant-loop decreases-loop
-returns c = let e : c.before.loop-c.c ≡ c.before.before.before.args.n = omega arith in rw (← e) c.before.loop-c.invariant.1
+returns c = let e : c.loop-c.c ≡ c.args.n = omega arith in rw (← e) c.loop-c.invariant.1
 
 pub recover_spec : {M : Type 1} → statement M
 recover_spec =

@@ -20,7 +20,7 @@ cast-result c = search rules
 returns : tie.Need-returns
 returns c =
     let s = c.before.before.before in
-    store_in s.args.marks.now s.args.c (search rules) c.before.from_byte.ensures c.is_stored.ensures
+    store_in s.args.marks.now s.args.c (search rules) c.from_byte.ensures c.is_stored.ensures
 
 pub stored_bit_spec : {M : Type 1} → statement M
 stored_bit_spec =

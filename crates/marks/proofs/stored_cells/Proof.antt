@@ -28,13 +28,13 @@ intersection-requires c κs = search rules
 returns : tie.Need-returns
 returns c =
     let w = c.before.before.before.before.before in
-    let a = w.before.args in
+    let a = w.args in
     let all = made-set _
     (made-near a.n a.marks.now 0 (omega arith) (search rules) w.word_below.ensures)
-    (made-near a.n a.marks.now 64 (omega arith) (search rules) c.before.before.before.before.word_below-2.ensures)
-    (made-near a.n a.marks.now 128 (omega arith) (search rules) c.before.before.before.word_below-3.ensures)
-    (made-near a.n a.marks.now 192 (omega arith) (search rules) c.before.before.word_below-4.ensures) in
-    set-ext (set-intersection all c.before.below.ensures c.intersection.ensures) (near-cut a.n a.marks.now)
+    (made-near a.n a.marks.now 64 (omega arith) (search rules) c.word_below-2.ensures)
+    (made-near a.n a.marks.now 128 (omega arith) (search rules) c.word_below-3.ensures)
+    (made-near a.n a.marks.now 192 (omega arith) (search rules) c.word_below-4.ensures) in
+    set-ext (set-intersection all c.below.ensures c.intersection.ensures) (near-cut a.n a.marks.now)
 
 pub stored_cells_spec : {M : Type 1} → statement M
 stored_cells_spec =

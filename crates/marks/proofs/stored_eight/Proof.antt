@@ -23,8 +23,8 @@ add-result c = search rules
 
 returns : tie.Need-returns
 returns c =
-    let a = c.before.before.args in
-    made-join (to_store 256 a.marks.now) a.c 4 4 c.before.stored_four.ensures c.stored_four-2.ensures
+    let a = c.args in
+    made-join (to_store 256 a.marks.now) a.c 4 4 c.stored_four.ensures c.stored_four-2.ensures
 
 pub stored_eight_spec : {M : Type 1} → statement M
 stored_eight_spec =

@@ -48,14 +48,14 @@ add-result-3 c = search rules
 
 returns : tie.Need-returns
 returns c =
-    let a = c.before.before.before.before.args in
+    let a = c.args in
     let f = to_store 256 a.marks.now in
     made-join f a.c 3 1
     (made-join f a.c 2 1
     (made-join f a.c 1 1
-    (made_one f a.c c.before.before.before.stored_bit.ensures)
-    (made_one f (a.c + 1) c.before.before.stored_bit-2.ensures))
-    (made_one f (a.c + 2) c.before.stored_bit-3.ensures))
+    (made_one f a.c c.stored_bit.ensures)
+    (made_one f (a.c + 1) c.stored_bit-2.ensures))
+    (made_one f (a.c + 2) c.stored_bit-3.ensures))
     (made_one f (a.c + 3) c.stored_bit-4.ensures)
 
 pub stored_four_spec : {M : Type 1} → statement M

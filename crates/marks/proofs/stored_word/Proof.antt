@@ -17,7 +17,7 @@ loop-holds : tie.Need-loop-k-init invariant-loop decreases-loop
 loop-holds c = filled-first _ _
 
 sub-k : tie.Need-overflow_sub-k invariant-loop decreases-loop
-sub-k c = filled-left c.before.loop-k.invariant c.loop-k-test.true
+sub-k c = filled-left c.loop-k.invariant c.loop-k-test.true
 
 add-stored-eight : tie.Need-overflow_add-first invariant-loop decreases-loop
 add-stored-eight c = search rules
@@ -26,19 +26,19 @@ stored-eight-requires : tie.Need-stored_eight-requires invariant-loop decreases-
 stored-eight-requires c κs = search rules
 
 mul-w : tie.Need-overflow_mul-w invariant-loop decreases-loop
-mul-w c = omega (arith, filled-room c.before.before.loop-k.invariant c.before.loop-k-test.true c.stored_eight.ensures)
+mul-w c = omega (arith, filled-room c.loop-k.invariant c.loop-k-test.true c.stored_eight.ensures)
 
 add-w : tie.Need-overflow_add-w invariant-loop decreases-loop
-add-w c = omega (arith, filled-room c.before.before.loop-k.invariant c.before.loop-k-test.true c.stored_eight.ensures)
+add-w c = omega (arith, filled-room c.loop-k.invariant c.loop-k-test.true c.stored_eight.ensures)
 
 loop-less : tie.Need-loop-k-smaller invariant-loop decreases-loop
 loop-less c = search rules
 
 loop-again : tie.Need-loop-k-preserved invariant-loop decreases-loop
-loop-again c = filled-turn c.before.before.loop-k.invariant c.before.loop-k-test.true c.stored_eight.ensures
+loop-again c = filled-turn c.loop-k.invariant c.loop-k-test.true c.stored_eight.ensures
 
 returns : tie.Need-returns invariant-loop decreases-loop
-returns c = filled-done c.before.loop-k.invariant c.loop-k-test.false
+returns c = filled-done c.loop-k.invariant c.loop-k-test.false
 
 pub stored_word_spec : {M : Type 1} → statement M
 stored_word_spec =

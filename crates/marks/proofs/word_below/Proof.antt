@@ -13,7 +13,7 @@ stored-word-requires : tie.Need-stored_word-requires
 stored-word-requires c κs = search rules
 
 returns-2 : tie.Need-returns
-returns-2 c = λ k l. rw (lt-leb _ _ c.before.if-n-first.false) (c.stored_word.ensures k l)
+returns-2 c = λ k l. rw (lt-leb _ _ c.if-n-first.false) (c.stored_word.ensures k l)
 
 pub word_below_spec : {M : Type 1} → statement M
 word_below_spec = tie.close (tie.spec returns stored-word-requires returns-2)

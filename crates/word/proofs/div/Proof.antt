@@ -13,15 +13,15 @@ magnitude-requires-2 : tie.Need-magnitude-requires-2
 magnitude-requires-2 c κs = search rules
 
 div-q : tie.Need-nonzero_div-q
-div-q c = omega (arith, magnitude-pos c.before.before.args.b c.before.before.requires, c.magnitude-2.ensures)
+div-q c = omega (arith, magnitude-pos c.args.b c.requires, c.magnitude-2.ensures)
 
 wrapping-sub-u32-requires : tie.Need-wrapping_sub_u32-requires
 wrapping-sub-u32-requires c κs = search rules
 
 -- the code's quotient
 quotient : (c : tie.After-magnitude-2)
-    → c.before.magnitude.result / c.magnitude-2.result ≡ nat_abs (val c.before.before.args.a) / nat_abs (val c.before.before.args.b)
-quotient c i = c.before.magnitude.ensures i / c.magnitude-2.ensures i
+    → c.magnitude.result / c.magnitude-2.result ≡ nat_abs (val c.args.a) / nat_abs (val c.args.b)
+quotient c i = c.magnitude.ensures i / c.magnitude-2.ensures i
 
 returns : tie.Need-returns-then-a-b
 returns c =
@@ -31,7 +31,7 @@ returns c =
 returns-2 : tie.Need-returns-else-a-b
 returns-2 c =
     let s = c.before.before.before.before in
-    div-other s.args.a s.args.b s.ranges.a.fits _ (omega arith) c.before.if-a-b.false (omega (arith, quotient c.before.before))
+    div-other s.args.a s.args.b s.ranges.a.fits _ (omega arith) c.if-a-b.false (omega (arith, quotient c.before.before))
 
 pub div_spec : {M : Type 1} → statement M
 div_spec =

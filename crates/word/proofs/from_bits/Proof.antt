@@ -8,13 +8,13 @@ use Rattle.word.proofs.from_bits.Statement.{statement}
 use Rattle.word.proofs.from_bits.Tie as tie
 
 -- what is computed from half on, and that it fits
-lowered : (c : tie.Else-n-lt-HALF) → to_z w64 c.before.args.n -ℤ pos 4294967296 ≡ val c.before.args.n
+lowered : (c : tie.Else-n-lt-HALF) → to_z w64 c.args.n -ℤ pos 4294967296 ≡ val c.args.n
 lowered c =
-    let n = c.before.args.n in
-    ap (λ (z : ℤ). z -ℤ pos 4294967296) (to_z_pos w64 {n = n} (omega arith)) ∙ val-above n (omega arith) c.before.ranges.n.fits
+    let n = c.args.n in
+    ap (λ (z : ℤ). z -ℤ pos 4294967296) (to_z_pos w64 {n = n} (omega arith)) ∙ val-above n (omega arith) c.ranges.n.fits
 
-near : (c : tie.Else-n-lt-HALF) → SFits w32 (to_z w64 c.before.args.n -ℤ pos 4294967296)
-near c = subst (SFits w32) (sym (lowered c)) (sfits_to_z c.before.ranges.n)
+near : (c : tie.Else-n-lt-HALF) → SFits w32 (to_z w64 c.args.n -ℤ pos 4294967296)
+near c = subst (SFits w32) (sym (lowered c)) (sfits_to_z c.ranges.n)
 
 cast-result : tie.Need-overflow_cast-result
 cast-result c = search rules

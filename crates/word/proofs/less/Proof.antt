@@ -14,7 +14,7 @@ wrapping-add-u32-requires-2 c κs = search rules
 returns : tie.Need-returns
 returns c =
     let s = c.before.before in
-    let e : c.before.wrapping_add_u32.result ≡ (s.args.a + 2 ^ 31) % 2 ^ 32 = omega arith in
+    let e : c.wrapping_add_u32.result ≡ (s.args.a + 2 ^ 31) % 2 ^ 32 = omega arith in
     let f : c.wrapping_add_u32-2.result ≡ (s.args.b + 2 ^ 31) % 2 ^ 32 = omega arith in
     (λ i. ltb (e i) (f i)) ∙ sym (less-law s.args.a s.args.b s.ranges.a.fits s.ranges.b.fits)
 

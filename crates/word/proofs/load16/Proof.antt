@@ -16,10 +16,10 @@ shared-slice-read-high c = search rules
 
 -- the two bytes are below 256
 bytes : (c : tie.After-shared_slice_known-2-1)
-    → (get_or c.before.before.args.s.now c.before.before.args.at 0 < 256)
-    × (get_or c.before.before.args.s.now (c.before.before.args.at + 1) 0 < 256)
+    → (get_or c.args.s.now c.args.at 0 < 256)
+    × (get_or c.args.s.now (c.args.at + 1) 0 < 256)
 bytes c =
-    let at = c.before.before.args.at in
+    let at = c.args.at in
     ((c.shared_slice_known-2-1.given at).fits, (c.shared_slice_known-2-1.given (at + 1)).fits)
 
 cast-result : tie.Need-overflow_cast-result
@@ -36,8 +36,8 @@ add-result c = omega (arith, bytes c)
 
 returns : tie.Need-returns
 returns c =
-    let s = c.before.before.args.s.now in
-    let at = c.before.before.args.at in
+    let s = c.args.s.now in
+    let at = c.args.at in
     omega (arith, load_split 1 1 s at, load_one s at, load_one s (at + 1))
 
 pub load16_spec : {M : Type 1} → statement M

@@ -12,10 +12,10 @@ add-result : tie.Need-overflow_add-result
 add-result c = search rules
 
 returns : tie.Need-returns-then-a-lt-HALF
-returns c = omega (arith, ap nat_abs (val_pos c.before.args.a (omega arith)))
+returns c = omega (arith, ap nat_abs (val_pos c.args.a (omega arith)))
 
 returns-2 : tie.Need-returns-else-a-lt-HALF
-returns-2 c = omega (arith, ap nat_abs (val-neg c.before.args.a (omega arith)))
+returns-2 c = omega (arith, ap nat_abs (val-neg c.args.a (omega arith)))
 
 pub magnitude_spec : {M : Type 1} → statement M
 magnitude_spec = tie.close (tie.spec sub-result add-result returns returns-2)

@@ -18,13 +18,13 @@ rem-result-2 : tie.Need-nonzero_rem-result-else-i-lt-HALF
 rem-result-2 c = search rules
 
 sub-result-3 : tie.Need-overflow_sub-result-else-i-lt-HALF-2
-sub-result-3 c = omega (arith, mod-lt (4294967295 - c.before.args.i) c.before.requires)
+sub-result-3 c = omega (arith, mod-lt (4294967295 - c.args.i) c.requires)
 
 returns : tie.Need-returns-then-i-lt-HALF
-returns c = omega (arith, place-pos c.before.args.i c.before.args.len (omega arith))
+returns c = omega (arith, place-pos c.args.i c.args.len (omega arith))
 
 returns-2 : tie.Need-returns-else-i-lt-HALF
-returns-2 c = omega (arith, place-neg c.before.args.i c.before.args.len (omega arith) c.before.ranges.i.fits)
+returns-2 c = omega (arith, place-neg c.args.i c.args.len (omega arith) c.ranges.i.fits)
 
 pub place_spec : {M : Type 1} → statement M
 place_spec =

@@ -26,7 +26,7 @@ same_length c = search rules
 returns : tie.Need-returns
 returns c =
     let s = c.before.before.before.before.before.before.before.before.before in
-    store-halves 2 _ s.args.at s.args.v c.before.before.before.before.before.before.store16.ensures c.before.before.store16-2.ensures
+    store-halves 2 _ s.args.at s.args.v c.store16.ensures c.store16-2.ensures
     (omega arith) (omega arith) (omega arith)
 
 pub store32_spec : {M : Type 1} → statement M

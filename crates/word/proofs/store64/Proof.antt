@@ -26,7 +26,7 @@ same_length c = search rules
 returns : tie.Need-returns
 returns c =
     let s = c.before.before.before.before.before.before.before.before.before in
-    store-halves 4 _ s.args.at s.args.v c.before.before.before.before.before.before.store32.ensures c.before.before.store32-2.ensures
+    store-halves 4 _ s.args.at s.args.v c.store32.ensures c.store32-2.ensures
     (omega arith) (omega arith) (omega arith)
 
 pub store64_spec : {M : Type 1} → statement M

@@ -12,7 +12,7 @@ range-requires : tie.Need-range-requires
 range-requires c κs = search rules
 
 returns : tie.Need-returns
-returns c = table-set c.before.args.base c.before.args.len c.range.ensures
+returns c = table-set c.args.base c.args.len c.range.ensures
 
 pub cells_of_spec : {M : Type 1} → statement M
 cells_of_spec = tie.close (tie.spec add-range range-requires returns)

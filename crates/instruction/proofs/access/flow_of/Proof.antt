@@ -28,10 +28,10 @@ returns : tie.Need-returns-in-End
 returns c = search rules
 
 returns-2 : tie.Need-returns-in-Jump
-returns-2 c = rw c.before.i-1.given.1
+returns-2 c = rw c.in-Jump.is
 
 returns-3 : tie.Need-returns-in-Less
-returns-3 c = rw c.before.i-in-Less-1.given.1
+returns-3 c = rw c.in-Less.is
 
 -- the instructions that the default arm is left with
 abbrev others : List ℕ
@@ -54,7 +54,7 @@ other Exclude k = refl
 other Checkpoint k = refl
 
 returns-4 : tie.Need-returns-in_default
-returns-4 c = other c.before.args.i c.in_default.keys4
+returns-4 c = other c.args.i c.in_default.in_default-own.keys4
 
 pub flow_of_spec : {M : Type 1} → statement M
 flow_of_spec =

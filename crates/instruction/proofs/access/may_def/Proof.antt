@@ -24,7 +24,7 @@ must-def-requires : tie.Need-must_def-requires
 must-def-requires c κs = search rules
 
 returns : tie.Need-returns-in-Put
-returns c = rw c.before.before.i-1.given.1 c.Cells-of.ensures
+returns c = rw c.in-Put.is c.cells_of.ensures
 
 -- the instructions that the default arm is left with
 abbrev others : List ℕ
@@ -47,7 +47,7 @@ other Exclude k = refl
 other Checkpoint k = refl
 
 returns-2 : tie.Need-returns-in_default
-returns-2 c = rw (← other c.before.before.args.i c.before.in_default.keys2) c.must_def.ensures
+returns-2 c = rw (← other c.args.i c.in_default.in_default-own.keys2) c.must_def.ensures
 
 pub may_def_spec : {M : Type 1} → statement M
 may_def_spec =

@@ -66,28 +66,28 @@ nothing-requires : tie.Need-nothing-requires
 nothing-requires c κs = search rules
 
 returns : tie.Need-returns-in-Copy
-returns c = rw c.before.before.i-1.given.1 c.one.ensures
+returns c = rw c.in-Copy.is c.one.ensures
 
 returns-2 : tie.Need-returns-in-Add
-returns-2 c = rw c.before.before.i-in-Add-1.given.1 c.two.ensures
+returns-2 c = rw c.in-Add.is c.two.ensures
 
 returns-3 : tie.Need-returns-in-Sub
-returns-3 c = rw c.before.before.i-in-Sub-1.given.1 c.two-in-Sub.ensures
+returns-3 c = rw c.in-Sub.is c.two-in-Sub.ensures
 
 returns-4 : tie.Need-returns-in-Div
-returns-4 c = rw c.before.before.i-in-Div-1.given.1 c.two-in-Div.ensures
+returns-4 c = rw c.in-Div.is c.two-in-Div.ensures
 
 returns-5 : tie.Need-returns-in-Emit
-returns-5 c = rw c.before.before.i-in-Emit-1.given.1 c.one-in-Emit.ensures
+returns-5 c = rw c.in-Emit.is c.one-in-Emit.ensures
 
 returns-6 : tie.Need-returns-in-Less
-returns-6 c = rw c.before.before.i-in-Less-1.given.1 c.two-in-Less.ensures
+returns-6 c = rw c.in-Less.is c.two-in-Less.ensures
 
 returns-7 : tie.Need-returns-in-Get
-returns-7 c = rw c.before.before.i-in-Get-1.given.1 c.one_and_cells_of.ensures
+returns-7 c = rw c.in-Get.is c.one_and_cells_of.ensures
 
 returns-8 : tie.Need-returns-in-Put
-returns-8 c = rw c.before.before.i-in-Put-1.given.1 c.two-in-Put.ensures
+returns-8 c = rw c.in-Put.is c.two-in-Put.ensures
 
 -- the instructions that the default arm is left with
 abbrev others : List ℕ
@@ -110,7 +110,7 @@ other Exclude k = refl
 other Checkpoint k = refl
 
 returns-9 : tie.Need-returns-in_default
-returns-9 c = rw (other c.before.before.args.i c.before.in_default.keys9) c.nothing.ensures
+returns-9 c = rw (other c.args.i c.in_default.in_default-own.keys9) c.nothing.ensures
 
 pub may_ref_spec : {M : Type 1} → statement M
 may_ref_spec =

@@ -12,7 +12,7 @@ cells-of-requires : tie.Need-cells_of-requires
 cells-of-requires c κs = search rules
 
 returns : tie.Need-returns
-returns c = span_set _ _ c.before.sure_cells-s.ensures c.Cells-of.ensures
+returns c = span_set _ _ c.sure_cells-s.ensures c.cells_of.ensures
 
 pub must_def_spec : {M : Type 1} → statement M
 must_def_spec = tie.close (tie.spec sure-cells-requires cells-of-requires returns)

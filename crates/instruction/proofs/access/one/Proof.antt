@@ -9,7 +9,7 @@ single-requires : tie.Need-single-requires
 single-requires c κs = search rules
 
 returns : tie.Need-returns
-returns c = one_set c.before.args.a c.single.ensures
+returns c = one_set c.args.a c.single.ensures
 
 pub one_spec : {M : Type 1} → statement M
 one_spec = tie.close (tie.spec single-requires returns)

@@ -16,8 +16,8 @@ union-requires c κs = search rules
 
 returns : tie.Need-returns
 returns c =
-    let s = c.before.before.before.args in
-    one-table-set s.a s.base s.len c.before.before.single.ensures c.before.Cells-of.ensures c.union.ensures
+    let s = c.args in
+    one-table-set s.a s.base s.len c.single.ensures c.cells_of.ensures c.union.ensures
 
 pub one_and_cells_of_spec : {M : Type 1} → statement M
 one_and_cells_of_spec =

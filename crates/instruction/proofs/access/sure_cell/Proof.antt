@@ -6,11 +6,11 @@ use Rattle.instruction.proofs.access.sure_cell.Statement.{statement}
 use Rattle.instruction.proofs.access.sure_cell.Tie as tie
 
 returns : tie.Need-returns-then-len-eq1
-returns c = let a = c.before.args in sure-span a.base a.len (omega (arith, c.if-len-eq1.true))
+returns c = let a = c.args in sure-span a.base a.len (omega (arith, c.if-len-eq1.true))
 
 returns-2 : tie.Need-returns
 returns-2 c =
-    let a = c.before.args in
+    let a = c.args in
     rw (unsure-table a.base a.len (λ e. omega (arith, c.if-len-eq1.false, e))) (no_span a.base)
 
 pub sure_cell_spec : {M : Type 1} → statement M

@@ -66,25 +66,25 @@ no-cell-requires : tie.Need-no_cell-requires
 no-cell-requires c κs = search rules
 
 returns : tie.Need-returns-in-Set
-returns c = rw c.before.before.i-1.given.1 c.one_Cell.ensures
+returns c = rw c.in-Set.is c.one_cell.ensures
 
 returns-2 : tie.Need-returns-in-Copy
-returns-2 c = rw c.before.before.i-in-Copy-1.given.1 c.one_cell-in-Copy.ensures
+returns-2 c = rw c.in-Copy.is c.one_cell-in-Copy.ensures
 
 returns-3 : tie.Need-returns-in-Add
-returns-3 c = rw c.before.before.i-in-Add-1.given.1 c.one_cell-in-Add.ensures
+returns-3 c = rw c.in-Add.is c.one_cell-in-Add.ensures
 
 returns-4 : tie.Need-returns-in-Sub
-returns-4 c = rw c.before.before.i-in-Sub-1.given.1 c.one_cell-in-Sub.ensures
+returns-4 c = rw c.in-Sub.is c.one_cell-in-Sub.ensures
 
 returns-5 : tie.Need-returns-in-Div
-returns-5 c = rw c.before.before.i-in-Div-1.given.1 c.one_cell-in-Div.ensures
+returns-5 c = rw c.in-Div.is c.one_cell-in-Div.ensures
 
 returns-6 : tie.Need-returns-in-Read
-returns-6 c = rw c.before.before.i-in-Read-1.given.1 c.one_cell-in-Read.ensures
+returns-6 c = rw c.in-Read.is c.one_cell-in-Read.ensures
 
 returns-7 : tie.Need-returns-in-Get
-returns-7 c = rw c.before.before.i-in-Get-1.given.1 c.one_cell-in-Get.ensures
+returns-7 c = rw c.in-Get.is c.one_cell-in-Get.ensures
 
 -- the instructions that the default arm is left with
 abbrev others : List ℕ
@@ -107,10 +107,10 @@ other Exclude k = refl
 other Checkpoint k = refl
 
 returns-8 : tie.Need-returns-in-Put
-returns-8 c = rw c.before.before.i-in-Put-1.given.1 c.sure_cell.ensures
+returns-8 c = rw c.in-Put.is c.sure_cell.ensures
 
 returns-9 : tie.Need-returns-in_default
-returns-9 c = rw (other c.before.before.args.i c.before.in_default.keys9) c.no_cell.ensures
+returns-9 c = rw (other c.args.i c.in_default.in_default-own.keys9) c.no_cell.ensures
 
 pub sure_cells_spec : {M : Type 1} → statement M
 sure_cells_spec =

@@ -15,7 +15,7 @@ union-requires : tie.Need-union-requires
 union-requires c κs = search rules
 
 returns : tie.Need-returns
-returns c = two-set c.before.before.before.args.a c.before.before.before.args.b c.before.before.single.ensures c.before.single-2.ensures c.union.ensures
+returns c = two-set c.args.a c.args.b c.single.ensures c.single-2.ensures c.union.ensures
 
 pub two_spec : {M : Type 1} → statement M
 two_spec = tie.close (tie.spec single-requires single-requires-2 union-requires returns)

@@ -13,7 +13,7 @@ returns : tie.Need-returns-then-at-p
 returns c = search rules
 
 returns-2 : tie.Need-returns-else-at-p
-returns-2 c = sym (get_or-eq_default c.before.args.p.now 0 c.if-at-p.false)
+returns-2 c = sym (get_or-eq_default c.args.p.now 0 c.if-at-p.false)
 
 pub byte_at_spec : {M : Type 1} → statement M
 byte_at_spec = tie.close (tie.spec shared-slice-read-result returns returns-2)

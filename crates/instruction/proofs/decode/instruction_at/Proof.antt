@@ -40,69 +40,69 @@ half-requires-2 c κs = search rules
 at-bytes : (c : tie.After-operand-w) →
     let s = c.before.before.before.before.before.before in
     instruction_at_of s.args.p.now s.args.at
-    ≡ instruction_from c.before.before.before.before.byte_at-k.result c.before.before.before.operand-x.result c.before.before.operand-y.result
-    c.before.operand-z.result c.operand-w.result (byte s.args.p.now (s.args.at + 5))
+    ≡ instruction_from c.byte_at-k.result c.operand-x.result c.operand-y.result
+    c.operand-z.result c.operand-w.result (byte s.args.p.now (s.args.at + 5))
 at-bytes c =
     let s = c.before.before.before.before.before.before in
-    decoded s.args.p.now s.args.at c.before.before.before.before.byte_at-k.ensures c.before.before.before.operand-x.ensures
-    c.before.before.operand-y.ensures c.before.operand-z.ensures c.operand-w.ensures
+    decoded s.args.p.now s.args.at c.byte_at-k.ensures c.operand-x.ensures
+    c.operand-y.ensures c.operand-z.ensures c.operand-w.ensures
 
 returns : tie.Need-returns-in-2
-returns c = rw (at-bytes c.before.before.before, c.before.before.in_default.keys1, c.from_bytes.ensures, c.before.operand.ensures)
+returns c = rw (at-bytes c.before.before.before, c.in-2.is, c.from_bytes.ensures, c.operand.ensures)
 
 returns-2 : tie.Need-returns-in-3
-returns-2 c = rw (at-bytes c.before, c.in_default.keys2)
+returns-2 c = rw (at-bytes c.before, c.in-3.is)
 
 returns-3 : tie.Need-returns-in-4
-returns-3 c = rw (at-bytes c.before, c.in_default.keys3)
+returns-3 c = rw (at-bytes c.before, c.in-4.is)
 
 returns-4 : tie.Need-returns-in-5
-returns-4 c = rw (at-bytes c.before, c.in_default.keys4)
+returns-4 c = rw (at-bytes c.before, c.in-5.is)
 
 returns-5 : tie.Need-returns-in-6
-returns-5 c = rw (at-bytes c.before, c.in_default.keys5)
+returns-5 c = rw (at-bytes c.before, c.in-6.is)
 
 returns-6 : tie.Need-returns-in-7
-returns-6 c = rw (at-bytes c.before, c.in_default.keys6)
+returns-6 c = rw (at-bytes c.before, c.in-7.is)
 
 returns-7 : tie.Need-returns-in-8
-returns-7 c = rw (at-bytes c.before, c.in_default.keys7)
+returns-7 c = rw (at-bytes c.before, c.in-8.is)
 
 returns-8 : tie.Need-returns-in-9
-returns-8 c = rw (at-bytes c.before.before, c.before.in_default.keys8, c.half.ensures)
+returns-8 c = rw (at-bytes c.before.before, c.in-9.is, c.half.ensures)
 
 returns-9 : tie.Need-returns-in-10
-returns-9 c = rw (at-bytes c.before.before, c.before.in_default.keys9, c.half-in-10.ensures)
+returns-9 c = rw (at-bytes c.before.before, c.in-10.is, c.half-in-10.ensures)
 
 returns-10 : tie.Need-returns-in-11
-returns-10 c = rw (at-bytes c.before, c.in_default.keys10)
+returns-10 c = rw (at-bytes c.before, c.in-11.is)
 
 returns-11 : tie.Need-returns-in-12
-returns-11 c = rw (at-bytes c.before, c.in_default.keys11)
+returns-11 c = rw (at-bytes c.before, c.in-12.is)
 
 returns-12 : tie.Need-returns-in-13
-returns-12 c = rw (at-bytes c.before, c.in_default.keys12)
+returns-12 c = rw (at-bytes c.before, c.in-13.is)
 
 returns-13 : tie.Need-returns-in-14
-returns-13 c = rw (at-bytes c.before, c.in_default.keys13)
+returns-13 c = rw (at-bytes c.before, c.in-14.is)
 
 returns-14 : tie.Need-returns-in_default
 returns-14 c =
     rw (
       at-bytes c.before,
-      ne_eqb _ _ c.in_default.rest.0.0.0.0.0.0.0.0.0.0.0.0.1,
-      ne_eqb _ _ c.in_default.rest.0.0.0.0.0.0.0.0.0.0.0.1,
-      ne_eqb _ _ c.in_default.rest.0.0.0.0.0.0.0.0.0.0.1,
-      ne_eqb _ _ c.in_default.rest.0.0.0.0.0.0.0.0.0.1,
-      ne_eqb _ _ c.in_default.rest.0.0.0.0.0.0.0.0.1,
-      ne_eqb _ _ c.in_default.rest.0.0.0.0.0.0.0.1,
-      ne_eqb _ _ c.in_default.rest.0.0.0.0.0.0.1,
-      ne_eqb _ _ c.in_default.rest.0.0.0.0.0.1,
-      ne_eqb _ _ c.in_default.rest.0.0.0.0.1,
-      ne_eqb _ _ c.in_default.rest.0.0.0.1,
-      ne_eqb _ _ c.in_default.rest.0.0.1,
-      ne_eqb _ _ c.in_default.rest.0.1,
-      ne_eqb _ _ c.in_default.rest.1,
+      ne_eqb _ _ c.in_default.in_default-own.rest.0.0.0.0.0.0.0.0.0.0.0.0.1,
+      ne_eqb _ _ c.in_default.in_default-own.rest.0.0.0.0.0.0.0.0.0.0.0.1,
+      ne_eqb _ _ c.in_default.in_default-own.rest.0.0.0.0.0.0.0.0.0.0.1,
+      ne_eqb _ _ c.in_default.in_default-own.rest.0.0.0.0.0.0.0.0.0.1,
+      ne_eqb _ _ c.in_default.in_default-own.rest.0.0.0.0.0.0.0.0.1,
+      ne_eqb _ _ c.in_default.in_default-own.rest.0.0.0.0.0.0.0.1,
+      ne_eqb _ _ c.in_default.in_default-own.rest.0.0.0.0.0.0.1,
+      ne_eqb _ _ c.in_default.in_default-own.rest.0.0.0.0.0.1,
+      ne_eqb _ _ c.in_default.in_default-own.rest.0.0.0.0.1,
+      ne_eqb _ _ c.in_default.in_default-own.rest.0.0.0.1,
+      ne_eqb _ _ c.in_default.in_default-own.rest.0.0.1,
+      ne_eqb _ _ c.in_default.in_default-own.rest.0.1,
+      ne_eqb _ _ c.in_default.in_default-own.rest.1,
     )
 
 pub instruction_at_spec : {M : Type 1} → statement M

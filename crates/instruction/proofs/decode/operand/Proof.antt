@@ -8,13 +8,13 @@ use Rattle.instruction.proofs.decode.operand.Statement.{statement}
 use Rattle.instruction.proofs.decode.operand.Tie as tie
 
 returns : tie.Need-returns-then-p-at
-returns c = sym (get_or-eq_default c.before.args.p.now 0 (omega arith))
+returns c = sym (get_or-eq_default c.args.p.now 0 (omega arith))
 
 sub-if2 : tie.Need-overflow_sub-p
 sub-if2 c = search rules
 
 returns-2 : tie.Need-returns-then-p-at-2
-returns-2 c = sym (get_or-eq_default c.before.before.args.p.now 0 (omega arith))
+returns-2 c = sym (get_or-eq_default c.args.p.now 0 (omega arith))
 
 add-result : tie.Need-overflow_add-result
 add-result c = search rules

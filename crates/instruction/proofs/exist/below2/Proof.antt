@@ -9,7 +9,7 @@ below1-requires : tie.Need-below1-requires
 below1-requires c κs = search rules
 
 returns : tie.Need-returns-then-a-n
-returns c = rw (lt-ltb _ _ c.before.if-a-n.true) c.below1.ensures
+returns c = rw (lt-ltb _ _ c.if-a-n.true) c.below1.ensures
 
 returns-2 : tie.Need-returns-else-a-n
 returns-2 c = rw (le-ltb _ _ c.if-a-n.false)

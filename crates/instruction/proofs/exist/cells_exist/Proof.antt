@@ -76,34 +76,34 @@ below2-requires-4 : tie.Need-below2-requires-in-Put
 below2-requires-4 c κs = search rules
 
 returns : tie.Need-returns-in-Set
-returns c = rw c.before.before.i-1.given.1 c.below1.ensures
+returns c = rw c.in-Set.is c.below1.ensures
 
 returns-2 : tie.Need-returns-in-Copy
-returns-2 c = rw c.before.before.i-in-Copy-1.given.1 c.below2.ensures
+returns-2 c = rw c.in-Copy.is c.below2.ensures
 
 returns-3 : tie.Need-returns-in-Add
-returns-3 c = rw c.before.before.i-in-Add-1.given.1 c.below3.ensures
+returns-3 c = rw c.in-Add.is c.below3.ensures
 
 returns-4 : tie.Need-returns-in-Sub
-returns-4 c = rw c.before.before.i-in-Sub-1.given.1 c.below3-in-Sub.ensures
+returns-4 c = rw c.in-Sub.is c.below3-in-Sub.ensures
 
 returns-5 : tie.Need-returns-in-Div
-returns-5 c = rw c.before.before.i-in-Div-1.given.1 c.below3-in-Div.ensures
+returns-5 c = rw c.in-Div.is c.below3-in-Div.ensures
 
 returns-6 : tie.Need-returns-in-Read
-returns-6 c = rw c.before.before.i-in-Read-1.given.1 c.below1-in-Read.ensures
+returns-6 c = rw c.in-Read.is c.below1-in-Read.ensures
 
 returns-7 : tie.Need-returns-in-Emit
-returns-7 c = rw c.before.before.i-in-Emit-1.given.1 c.below1-in-Emit.ensures
+returns-7 c = rw c.in-Emit.is c.below1-in-Emit.ensures
 
 returns-8 : tie.Need-returns-in-Less
-returns-8 c = rw c.before.before.i-in-Less-1.given.1 c.below2-in-Less.ensures
+returns-8 c = rw c.in-Less.is c.below2-in-Less.ensures
 
 returns-9 : tie.Need-returns-in-Get
-returns-9 c = rw c.before.before.i-in-Get-1.given.1 c.below2-in-Get.ensures
+returns-9 c = rw c.in-Get.is c.below2-in-Get.ensures
 
 returns-10 : tie.Need-returns-in-Put
-returns-10 c = rw c.before.before.i-in-Put-1.given.1 c.below2-in-Put.ensures
+returns-10 c = rw c.in-Put.is c.below2-in-Put.ensures
 
 -- the instructions that the default arm is left with
 abbrev others : List ℕ
@@ -126,7 +126,7 @@ other n Exclude k = refl
 other n Checkpoint k = refl
 
 returns-11 : tie.Need-returns-in_default
-returns-11 c = other c.before.args.n c.before.args.i c.in_default.keys11
+returns-11 c = other c.args.n c.args.i c.in_default.in_default-own.keys11
 
 pub cells_exist_spec : {M : Type 1} → statement M
 cells_exist_spec =

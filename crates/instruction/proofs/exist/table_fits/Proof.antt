@@ -28,10 +28,10 @@ fits-in-requires-2 : tie.Need-fits_in-requires-in-Put
 fits-in-requires-2 c κs = search rules
 
 returns : tie.Need-returns-in-Get
-returns c = rw c.before.before.i-1.given.1 (c.fits_in.ensures ∙ sym (and-true _))
+returns c = rw c.in-Get.is (c.fits_in.ensures ∙ sym (and-true _))
 
 returns-2 : tie.Need-returns-in-Put
-returns-2 c = rw c.before.before.i-in-Put-1.given.1 c.fits_in-in-Put.ensures
+returns-2 c = rw c.in-Put.is c.fits_in-in-Put.ensures
 
 -- the instructions that the default arm is left with
 abbrev others : List ℕ
@@ -54,7 +54,7 @@ other n Exclude k = refl
 other n Checkpoint k = refl
 
 returns-3 : tie.Need-returns-in_default
-returns-3 c = other c.before.args.n c.before.args.i c.in_default.keys3
+returns-3 c = other c.args.n c.args.i c.in_default.in_default-own.keys3
 
 pub table_fits_spec : {M : Type 1} → statement M
 table_fits_spec =

@@ -10,10 +10,10 @@ element-copy-out-result : tie.Need-bounds-table-opcode
 element-copy-out-result c = search rules
 
 cast-result : tie.Need-overflow_cast-result-2
-cast-result c = omega (arith, c.before.requires c.before.args.opcode (search rules), length_most c.before.args.opcode)
+cast-result c = omega (arith, c.requires c.args.opcode (search rules), length_most c.args.opcode)
 
 returns : tie.Need-returns
-returns c = c.before.requires c.before.args.opcode (search rules)
+returns c = c.requires c.args.opcode (search rules)
 
 pub length_in_spec : {M : Type 1} → statement M
 length_in_spec = tie.close (tie.spec element-copy-out-result cast-result returns)

@@ -7,35 +7,35 @@ use Rattle.liveness.proofs.Waiting.{room-left, push_kept, push-new}
 use Rattle.liveness.proofs.worklist.push.Statement.{statement}
 use Rattle.liveness.proofs.worklist.push.Tie as tie
 
-slice-read-if1 : tie.Need-slice-read-if1
+slice-read-if1 : tie.Need-bounds-flags-i
 slice-read-if1 c = search rules
 
-returns : tie.Need-returns
-returns c = push_kept c.if1.true
+returns : tie.Need-returns-then-flags-i
+returns c = push_kept c.if-flags-i.true
 
-slice-write-flags : tie.Need-slice-write-flags
+slice-write-flags : tie.Need-bounds-flags-i-2
 slice-write-flags c = search rules
 
-left : (c : tie.Else1) → let s = c.before.before in s.args.top < length s.args.list.now
-left c = let s = c.before.before in room-left _ s.requires.0 s.requires.1 c.if1.false
+left : (c : tie.Else-flags-i) → let s = c.before.before in s.args.top < length s.args.list.now
+left c = let s = c.before.before in room-left _ s.requires.0 s.requires.1 c.if-flags-i.false
 
-mul-list : tie.Need-overflow-mul-list
+mul-list : tie.Need-offset_bounds-list-top
 mul-list c = let l = left c in search rules
 
-slice-write-list : tie.Need-slice-write-list
+slice-write-list : tie.Need-bounds-list-top
 slice-write-list c = left c
 
-add-result : tie.Need-overflow-add-result
+add-result : tie.Need-overflow_add-result
 add-result c = let l = left c in search rules
 
-same_length : tie.Need-same-length
+same_length : tie.Need-shape_of-list
 same_length c = search rules
 
-same-length-2 : tie.Need-same-length-2
+same-length-2 : tie.Need-shape_of-flags
 same-length-2 c = search rules
 
-returns-2 : tie.Need-returns-2
-returns-2 c = push-new c.if1.false
+returns-2 : tie.Need-returns
+returns-2 c = push-new c.if-flags-i.false
 
 pub push_spec : {M : Type 1} → statement M
 push_spec =

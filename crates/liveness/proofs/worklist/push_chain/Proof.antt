@@ -10,56 +10,56 @@ use Rattle.liveness.proofs.Threads.{Along, along-first, along-number, along-turn
 use Rattle.liveness.proofs.worklist.push_chain.Statement.{statement}
 use Rattle.liveness.proofs.worklist.push_chain.Tie as tie
 
-abbrev invariant-loop : tie.invariant-loop
+abbrev invariant-loop : tie.invariant-loop-rest
 invariant-loop list₀ flags₀ first links e top₀ rest₀ list flags top rest = Along links list₀ flags₀ e list flags top rest
 
-abbrev decreases-loop : tie.decreases-loop
+abbrev decreases-loop : tie.decreases-loop-rest
 decreases-loop list₀ flags₀ first links e top₀ rest₀ list flags top rest = rest
 
-loop-holds : tie.Need-loop-init invariant-loop decreases-loop
+loop-holds : tie.Need-loop-rest-init invariant-loop decreases-loop
 loop-holds c = let s = c.before.before.before in along-first s.requires.0 s.requires.2
 
-sub-k : tie.Need-overflow-sub-k invariant-loop decreases-loop
-sub-k c = c.loop-test.true
+sub-k : tie.Need-overflow_sub-k invariant-loop decreases-loop
+sub-k c = c.loop-rest-test.true
 
 -- the number of the turn has a link
-number : (c : tie.In-loop invariant-loop decreases-loop) → c.before.loop.rest - 1 < length c.before.before.before.before.before.args.links.now
-number c = along-number c.before.loop.invariant c.loop-test.true
+number : (c : tie.In-loop-rest invariant-loop decreases-loop) → c.before.loop-rest.rest - 1 < length c.before.before.before.before.before.args.links.now
+number c = along-number c.before.loop-rest.invariant c.loop-rest-test.true
 
-push-requires : tie.Need-push-requires invariant-loop decreases-loop
-push-requires c κs = let at_test = c.before.before in may-push at_test.before.loop.invariant.pushes (number at_test)
+push-requires : tie.Need-push-top-requires invariant-loop decreases-loop
+push-requires c κs = let at_test = c.before.before in may-push at_test.loop-rest.invariant.pushes (number at_test)
 
-cast-rest : tie.Need-overflow-cast-rest invariant-loop decreases-loop
+cast-rest : tie.Need-overflow_cast-rest invariant-loop decreases-loop
 cast-rest c = let l = number c.before.before.before.before.before.before.before in search rules
 
-mul-rest : tie.Need-overflow-mul-rest invariant-loop decreases-loop
+mul-rest : tie.Need-offset_bounds-links-k invariant-loop decreases-loop
 mul-rest c = let l = number c.before.before.before.before.before.before.before in search rules
 
-shared-slice-read-rest : tie.Need-shared-slice-read-rest invariant-loop decreases-loop
+shared-slice-read-rest : tie.Need-bounds-links-k invariant-loop decreases-loop
 shared-slice-read-rest c = number c.before.before.before.before.before.before.before.before
 
-loop-less : tie.Need-loop-smaller invariant-loop decreases-loop
+loop-less : tie.Need-loop-rest-smaller invariant-loop decreases-loop
 loop-less c =
     let at_test = c.before.before.before.before.before.before.before.before in
-    omega (arith, at_test.before.before.before.before.before.requires.1 _ (number at_test), at_test.loop-test.true)
+    omega (arith, at_test.requires.1 _ (number at_test), at_test.loop-rest-test.true)
 
-loop-again : tie.Need-loop-preserved invariant-loop decreases-loop
+loop-again : tie.Need-loop-rest-preserved invariant-loop decreases-loop
 loop-again c =
     let at_push = c.before.before.before.before.before in
     let at_test = at_push.before.before.before in
-    along-turn at_test.before.loop.invariant at_test.loop-test.true at_test.before.before.before.before.before.requires.1 at_push.push.ensures
+    along-turn at_test.loop-rest.invariant at_test.loop-rest-test.true at_test.requires.1 at_push.push-top.ensures
 
-same_length : tie.Need-same-length invariant-loop decreases-loop
-same_length c = c.before.loop.invariant.pushes.list_size
+same_length : tie.Need-shape_of-list invariant-loop decreases-loop
+same_length c = c.loop-rest.invariant.pushes.list_size
 
-same-length-2 : tie.Need-same-length-2 invariant-loop decreases-loop
-same-length-2 c = c.before.loop.invariant.pushes.flags_size
+same-length-2 : tie.Need-shape_of-flags invariant-loop decreases-loop
+same-length-2 c = c.loop-rest.invariant.pushes.flags_size
 
 returns : tie.Need-returns invariant-loop decreases-loop
-returns c = along-done c.before.loop.invariant c.loop-test.false
+returns c = along-done c.loop-rest.invariant c.loop-rest-test.false
 
-pub push-chain-spec : {M : Type 1} → statement M
-push-chain-spec =
+pub push_chain_spec : {M : Type 1} → statement M
+push_chain_spec =
     tie.close
     (tie.spec
     invariant-loop

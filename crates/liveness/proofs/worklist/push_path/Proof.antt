@@ -9,56 +9,56 @@ use Rattle.liveness.proofs.Waiting.{Way, way-first, way-flag, way-turn, way-less
 use Rattle.liveness.proofs.worklist.push_path.Statement.{statement}
 use Rattle.liveness.proofs.worklist.push_path.Tie as tie
 
-abbrev invariant-loop : tie.invariant-loop
+abbrev invariant-loop : tie.invariant-loop-flags
 invariant-loop list₀ flags₀ first left k top₀ i₀ list flags top i = Way left list₀ flags₀ k list flags top i
 
-abbrev decreases-loop : tie.decreases-loop
+abbrev decreases-loop : tie.decreases-loop-flags
 decreases-loop list₀ flags₀ first left k top₀ i₀ list flags top i = length flags - count flags
 
-loop-holds : tie.Need-loop-init invariant-loop decreases-loop
+loop-holds : tie.Need-loop-flags-init invariant-loop decreases-loop
 loop-holds c = let s = c.before.before.before in way-first s.requires.0 s.requires.2
 
-cast-if1 : tie.Need-overflow-cast-if1 invariant-loop decreases-loop
-cast-if1 c = let l = c.loop.invariant.node in search rules
+cast-if1 : tie.Need-overflow_cast-i invariant-loop decreases-loop
+cast-if1 c = let l = c.loop-flags.invariant.node in search rules
 
-slice-read-if1 : tie.Need-slice-read-if1 invariant-loop decreases-loop
-slice-read-if1 c = way-flag c.before.loop.invariant
+slice-read-if1 : tie.Need-bounds-flags-i invariant-loop decreases-loop
+slice-read-if1 c = way-flag c.loop-flags.invariant
 
-push-requires : tie.Need-push-requires invariant-loop decreases-loop
-push-requires c κs = let w = c.before.before.before.before.loop.invariant in may-push w.pushes w.node
+push-requires : tie.Need-push-top-requires invariant-loop decreases-loop
+push-requires c κs = let w = c.loop-flags.invariant in may-push w.pushes w.node
 
-cast-i : tie.Need-overflow-cast-i invariant-loop decreases-loop
-cast-i c = let l = c.before.before.before.before.before.before.before.before.before.loop.invariant.node in search rules
+cast-i : tie.Need-overflow_cast-i-in-loop-flags invariant-loop decreases-loop
+cast-i c = let l = c.loop-flags.invariant.node in search rules
 
-mul-i : tie.Need-overflow-mul-i invariant-loop decreases-loop
-mul-i c = let l = c.before.before.before.before.before.before.before.before.before.loop.invariant.node in search rules
+mul-i : tie.Need-offset_bounds-left-i invariant-loop decreases-loop
+mul-i c = let l = c.loop-flags.invariant.node in search rules
 
-shared-slice-read-i : tie.Need-shared-slice-read-i invariant-loop decreases-loop
-shared-slice-read-i c = c.before.before.before.before.before.before.before.before.before.before.loop.invariant.node
+shared-slice-read-i : tie.Need-bounds-left-i invariant-loop decreases-loop
+shared-slice-read-i c = c.loop-flags.invariant.node
 
-loop-less : tie.Need-loop-smaller invariant-loop decreases-loop
+loop-less : tie.Need-loop-flags-smaller invariant-loop decreases-loop
 loop-less c =
     let at_push = c.before.before.before.before.before in
     let at_test = at_push.before.before.before in
-    way-less at_test.before.before.loop.invariant at_push.push.ensures at_test.if1.true
+    way-less at_test.loop-flags.invariant at_push.push-top.ensures at_test.loop-flags-test.true
 
-loop-again : tie.Need-loop-preserved invariant-loop decreases-loop
+loop-again : tie.Need-loop-flags-preserved invariant-loop decreases-loop
 loop-again c =
     let at_push = c.before.before.before.before.before in
     let at-loop = at_push.before.before.before.before.before in
-    way-turn at-loop.loop.invariant at_push.push.ensures at-loop.before.before.before.before.requires.1
+    way-turn at-loop.loop-flags.invariant at_push.push-top.ensures at-loop.requires.1
 
-same_length : tie.Need-same-length invariant-loop decreases-loop
-same_length c = c.before.before.loop.invariant.pushes.list_size
+same_length : tie.Need-shape_of-list invariant-loop decreases-loop
+same_length c = c.loop-flags.invariant.pushes.list_size
 
-same-length-2 : tie.Need-same-length-2 invariant-loop decreases-loop
-same-length-2 c = c.before.before.loop.invariant.pushes.flags_size
+same-length-2 : tie.Need-shape_of-flags invariant-loop decreases-loop
+same-length-2 c = c.loop-flags.invariant.pushes.flags_size
 
 returns : tie.Need-returns invariant-loop decreases-loop
-returns c = way-done c.before.before.loop.invariant c.if1.false
+returns c = way-done c.loop-flags.invariant c.loop-flags-test.false
 
-pub push-path-spec : {M : Type 1} → statement M
-push-path-spec =
+pub push_path_spec : {M : Type 1} → statement M
+push_path_spec =
     tie.close
     (tie.spec
     invariant-loop

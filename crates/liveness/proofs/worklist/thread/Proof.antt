@@ -10,87 +10,87 @@ use Rattle.liveness.proofs.Threads.{Threaded, threaded-first, threaded-turn, thr
 use Rattle.liveness.proofs.worklist.thread.Statement.{statement}
 use Rattle.liveness.proofs.worklist.thread.Tie as tie
 
-abbrev invariant-loop : tie.invariant-loop
+abbrev invariant-loop : tie.invariant-loop-k
 invariant-loop targets heads₀ links₀ n k₀ heads links k = Threaded targets heads₀ links₀ heads links k
 
-abbrev decreases-loop : tie.decreases-loop
+abbrev decreases-loop : tie.decreases-loop-k
 decreases-loop targets heads₀ links₀ n k₀ heads links k = n - k
 
-cast-n : tie.Need-overflow-cast-n invariant-loop decreases-loop
+cast-n : tie.Need-overflow_cast-n invariant-loop decreases-loop
 cast-n c = record { fits = omega (arith, c.requires.0) }
 
-loop-holds : tie.Need-loop-init invariant-loop decreases-loop
+loop-holds : tie.Need-loop-k-init invariant-loop decreases-loop
 loop-holds c = threaded-first _ _ _ c.requires.4
 
-cast_t : tie.Need-overflow-cast-t invariant-loop decreases-loop
+cast_t : tie.Need-overflow_cast-t invariant-loop decreases-loop
 cast_t c = search rules
 
-mul-t : tie.Need-overflow-mul-t invariant-loop decreases-loop
+mul-t : tie.Need-offset_bounds-targets-k invariant-loop decreases-loop
 mul-t c = search rules
 
-shared-slice-read-t : tie.Need-shared-slice-read-t invariant-loop decreases-loop
-shared-slice-read-t c = c.before.loop-test.true
+shared-slice-read-t : tie.Need-bounds-targets-k invariant-loop decreases-loop
+shared-slice-read-t c = c.loop-k-test.true
 
 -- the target of the turn has a head, and its number a link
-room : (c : tie.In-loop invariant-loop decreases-loop) →
+room : (c : tie.In-loop-k invariant-loop decreases-loop) →
     let s = c.before.before in
-    let r = c.before.loop in
+    let r = c.before.loop-k in
     (get_or s.args.targets.now r.k 0 < length r.heads) × (r.k < length r.links)
 room c =
     let s = c.before.before in
-    let r = c.before.loop in
-    (omega (arith, s.requires.3 _ c.loop-test.true, s.requires.2, r.invariant.heads_size), omega (arith, s.requires.1, r.invariant.links_size, c.loop-test.true))
+    let r = c.before.loop-k in
+    (omega (arith, s.requires.3 _ c.loop-k-test.true, s.requires.2, r.invariant.heads_size), omega (arith, s.requires.1, r.invariant.links_size, c.loop-k-test.true))
 
-cast-t-2 : tie.Need-overflow-cast-t-2 invariant-loop decreases-loop
-cast-t-2 c = let s = c.before.before.before in record { fits = omega (arith, s.requires.3 _ c.before.loop-test.true, s.requires.0) }
+cast-t-2 : tie.Need-overflow_cast-t-in-loop-k invariant-loop decreases-loop
+cast-t-2 c = let s = c.before.before.before in record { fits = omega (arith, s.requires.3 _ c.loop-k-test.true, s.requires.0) }
 
-mul-links : tie.Need-overflow-mul-links invariant-loop decreases-loop
+mul-links : tie.Need-offset_bounds-heads-t invariant-loop decreases-loop
 mul-links c = let l = room c.before in search rules
 
-slice-read-links : tie.Need-slice-read-links invariant-loop decreases-loop
+slice-read-links : tie.Need-bounds-heads-t invariant-loop decreases-loop
 slice-read-links c = (room c.before.before).0
 
-cast-links : tie.Need-overflow-cast-links invariant-loop decreases-loop
+cast-links : tie.Need-overflow_cast-links invariant-loop decreases-loop
 cast-links c = search rules
 
-mul-links-2 : tie.Need-overflow-mul-links-2 invariant-loop decreases-loop
+mul-links-2 : tie.Need-offset_bounds-links-k invariant-loop decreases-loop
 mul-links-2 c = search rules
 
-slice-write-links : tie.Need-slice-write-links invariant-loop decreases-loop
+slice-write-links : tie.Need-bounds-links-k invariant-loop decreases-loop
 slice-write-links c = (room c.before.before).1
 
-add-heads : tie.Need-overflow-add-heads invariant-loop decreases-loop
+add-heads : tie.Need-overflow_add-heads invariant-loop decreases-loop
 add-heads c = search rules
 
-mul-heads : tie.Need-overflow-mul-heads invariant-loop decreases-loop
+mul-heads : tie.Need-offset_bounds-heads-t-in-loop-k invariant-loop decreases-loop
 mul-heads c = let l = room c.before.before in search rules
 
-slice-write-heads : tie.Need-slice-write-heads invariant-loop decreases-loop
+slice-write-heads : tie.Need-bounds-heads-t-in-loop-k invariant-loop decreases-loop
 slice-write-heads c = (room c.before.before).0
 
-add-k : tie.Need-overflow-add-k invariant-loop decreases-loop
+add-k : tie.Need-overflow_add-k invariant-loop decreases-loop
 add-k c = search rules
 
-loop-less : tie.Need-loop-smaller invariant-loop decreases-loop
-loop-less c = omega (arith, c.before.before.loop-test.true)
+loop-less : tie.Need-loop-k-smaller invariant-loop decreases-loop
+loop-less c = omega (arith, c.loop-k-test.true)
 
-loop-again : tie.Need-loop-preserved invariant-loop decreases-loop
+loop-again : tie.Need-loop-k-preserved invariant-loop decreases-loop
 loop-again c =
     let at_test = c.before.before in
     let r = room at_test in
-    threaded-turn _ _ _ _ _ _ at_test.before.loop.invariant _ refl at_test.loop-test.true r.0 r.1
+    threaded-turn _ _ _ _ _ _ at_test.loop-k.invariant _ refl at_test.loop-k-test.true r.0 r.1
 
-same_length : tie.Need-same-length invariant-loop decreases-loop
-same_length c = c.before.loop.invariant.heads_size
+same_length : tie.Need-shape_of-heads invariant-loop decreases-loop
+same_length c = c.loop-k.invariant.heads_size
 
-same-length-2 : tie.Need-same-length-2 invariant-loop decreases-loop
-same-length-2 c = c.before.loop.invariant.links_size
+same-length-2 : tie.Need-shape_of-links invariant-loop decreases-loop
+same-length-2 c = c.loop-k.invariant.links_size
 
 returns : tie.Need-returns invariant-loop decreases-loop
-returns c = threaded-done c.before.loop.invariant c.loop-test.false
+returns c = threaded-done c.loop-k.invariant c.loop-k-test.false
 
-pub thread-spec : {M : Type 1} → statement M
-thread-spec =
+pub thread_spec : {M : Type 1} → statement M
+thread_spec =
     tie.close
     (tie.spec
     invariant-loop
