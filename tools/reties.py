@@ -114,35 +114,24 @@ def spec_parts(text):
     return head, tail[:i], tail[i:]
 
 
-OF_START = ("args", "ranges", "requires", "well_formed", "pre", "fits", "good", "told", "shared")
-
-
 def walk(pl, kind, fields, said):
     """The fields of a path from a record of that kind in the new names, and the kind where it ends.
 
+    A record shows the fields of those before it, so a step is named from where the path begins.
     A kind is ("place", i), ("args",), ("step",) or None where it is not known."""
     if kind and kind[0] == "place":
         i, n = kind[1], 0
         while n < len(fields) and fields[n] == "before":
             n += 1
-        at = pl.up(i, n)
         rest = fields[n:]
-        if at is None:
-            said.append("path " + ".".join(fields))
-            return fields, None
         if not rest:
-            k = pl.befores(i, at)
-            if k is None:
-                said.append("swallowed " + ".".join(fields))
-                return fields, ("place", at)
-            return ["before"] * k, ("place", at)
+            return fields, ("before", i, n)
         f = rest[0]
         if f in ("args", "ranges", "fits"):
             if len(rest) == 1:
                 return [f], ("args",)
             return [f, pl.args.get(plain(rest[1]), rest[1])] + rest[2:], ("step",)
-        # a step of this place or of one before it
-        a = at
+        a = i
         while a is not None and pl.step_old[a] != plain(f):
             a = pl.parent[a]
         if a is not None:
@@ -166,7 +155,7 @@ def walk(pl, kind, fields, said):
             out.append(f)
             if k + 1 < len(fields):
                 out.append(pl.args.get(plain(fields[k + 1]), fields[k + 1]))
-                out += fields[k + 2:]
+                out += fields[k + 2 :]
             return out, ("step",)
         else:
             names = pl.by_step.get(plain(f), set())
@@ -178,6 +167,22 @@ def walk(pl, kind, fields, said):
                     said.append("which " + f)
             done = True
     return out, None
+
+
+def argument(pl, root, i, p, said):
+    """From a record of place i, bound to root, the record of place p, which a helper takes."""
+    k = pl.befores(i, p)
+    if k is not None:
+        return ".".join([root] + ["before"] * k)
+    if pl.old[p].endswith("-unread"):
+        twin = pl.index.get(plain(pl.old[p][: -len("-unread")]))
+        k = pl.befores(i, twin)
+        if k is not None:
+            step = pl.step_new(twin)
+            up = ".".join([root] + ["before"] * (k + 1))
+            return f"(record {{ before = {up}; {step} = record {{ given = {root}.{step}.given }} }})"
+    said.append(f"argument {pl.new[i]} to {pl.new[p]}")
+    return None
 
 
 def turn(path, it, name):
@@ -217,6 +222,16 @@ def turn(path, it, name):
         if plain(m.group(2)) in pl.index:
             whole[m.group(1)] = ("place", pl.index[plain(m.group(2))])
 
+    takes = {l: pl.asked[g] for l, g in goal_of.items() if g in pl.asked}
+    for m in re.finditer(rf"(?m)^\s*(?:pub |abbrev )*({WORD}) : \({WORD} : tie\.({WORD})", head):
+        if plain(m.group(2)) in pl.index:
+            takes[m.group(1)] = pl.index[plain(m.group(2))]
+    for m in re.finditer(rf"(?m)^\s*(?:pub |abbrev )*({WORD}) : tie\.({WORD}) →", head):
+        if plain(m.group(2)) in pl.index:
+            takes[m.group(1)] = pl.index[plain(m.group(2))]
+    head = re.sub(r"\(not-(?:true|false) (?:\([^()]*\)|[^\s()]+) (c[\w.'\-₀₁₂]*\.(?:true|false))\)", r"\1", head)
+    head = re.sub(r"\bnot-(?:true|false) (?:\([^()]*\)|[^\s()]+) (c[\w.'\-₀₁₂]*\.(?:true|false))", r"\1", head)
+
     blocks = re.split(r"(\n\n+)", head)
     for i, block in enumerate(blocks):
         if block.startswith("\n") or not block:
@@ -243,19 +258,43 @@ def turn(path, it, name):
             if root.startswith("("):
                 words = root[1:-1].split()
                 kind = ("place", returns[words[0]]) if words and words[0] in returns else None
+                inner = re.match(rf"\(({WORD}) ({WORD})((?:\.{WORD})*)\)$", root)
+                if inner and inner.group(1) in takes and (kinds.get(inner.group(2)) or (0,))[0] == "place":
+                    got = argument(pl, inner.group(2), kinds[inner.group(2)][1], takes[inner.group(1)], said)
+                    if got:
+                        root = f"({inner.group(1)} {got})"
             else:
                 kind = kinds.get(root)
             renamed, end = walk(pl, kind, fields, said)
-            if root.startswith("("):
-                inner = PATH.sub(lambda w: ".".join([w.group(1)] + walk(pl, kinds.get(w.group(1)), w.group(2)[1:].split("."), said)[0]), root)
-                root = inner
-            out.append(block[last : m.start()] + ".".join([root] + renamed))
-            last = m.end()
+            whole_path = ".".join([root] + renamed)
             bound = re.search(rf"let ({WORD}) = $", block[: m.start()])
-            if bound and re.match(r"\s+in\b", block[m.end() :]):
+            bound = bound if bound and re.match(r"\s+in\b", block[m.end() :]) else None
+            if end and end[0] == "before":
+                if bound:
+                    whole_path, end = root, ("place", end[1])
+                else:
+                    caller = re.search(rf"({WORD})\s+$", block[: m.start()])
+                    if caller and caller.group(1) in takes:
+                        whole_path = argument(pl, root, end[1], takes[caller.group(1)], said) or whole_path
+                    else:
+                        said.append("bare " + whole_path)
+            out.append(block[last : m.start()] + whole_path)
+            last = m.end()
+            if bound:
                 kinds[bound.group(1)] = end
-        # a variable bound to what a helper gives
         block = "".join(out) + block[last:]
+
+        # a variable that stands for a record further on than the one that a helper takes
+        def bare(m):
+            helper, v = m.group(1), m.group(2)
+            kind = kinds.get(v)
+            if helper in takes and kind and kind[0] == "place" and kind[1] != takes[helper]:
+                got = argument(pl, v, kind[1], takes[helper], said)
+                if got:
+                    return f"{helper} {got}"
+            return m.group(0)
+
+        block = re.sub(rf"(?<![\w.'\-])({WORD}) ({WORD})(?![\w.'\-])(?! =)", bare, block)
         blocks[i] = block
     head = "".join(blocks)
 

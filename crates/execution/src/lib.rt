@@ -1,6 +1,8 @@
 // One instruction (document 01: a command) on the cells, done from its bytes. `plain` does those that touch the
 // cells and the place alone, and is equated with document 01's command table, the effects of
 // specs/Effects.antt; the others are the machine's.
+#![tactic(auto)]
+
 ghost use Rattle.std.specs.Prelude.{◌≡◌, true, cond, ◌+◌, ◌<◌, ◌≤◌, eqb, length, set};
 ghost use Rattle.word.specs.Bytes.{load_of};
 ghost use Rattle.word.specs.Word.{add_of, sub_of, div_of, less_of};

@@ -2,6 +2,8 @@
 // specs/Check.antt and with the grounds of specs/Grounds.antt, for every byte string. One walk over
 // the instructions counts them, fills the table of places, and notes where the jumps go. Crates above
 // take an accepted program's laws from proofs/Accepted.antt, AfterLaws.antt and CellLaws.antt.
+#![tactic(auto)]
+
 mod jumps;
 pub mod places;
 mod rules;

@@ -9,43 +9,43 @@ use borrow.Author.Rules.{rules}
 use Rattle.execution.proofs.div.Statement.{statement}
 use Rattle.execution.proofs.div.Tie as tie
 
-add-cell : tie.Need-overflow-add-cell
+add-cell : tie.Need-overflow_add-at
 add-cell c = search rules
 
-cell-requires : tie.Need-cell-requires
+cell-requires : tie.Need-cell-y-requires
 cell-requires c κs = search rules
 
-returns : tie.Need-returns
-returns c = stopped _ _ c.before.cell.ensures c.if1.true
+returns : tie.Need-returns-then-y-eq0
+returns c = stopped _ _ c.cell-y.ensures c.if-y-eq0.true
 
-add-cell-2 : tie.Need-overflow-add-cell-2
+add-cell-2 : tie.Need-overflow_add-at-2
 add-cell-2 c = search rules
 
-cell-requires-2 : tie.Need-cell-requires-2
+cell-requires-2 : tie.Need-cell-requires
 cell-requires-2 c κs = search rules
 
-div-requires : tie.Need-div-requires
+div-requires : tie.Need-div-v-requires
 div-requires c κs = search rules
 
-add-put-cell : tie.Need-overflow-add-put-cell
+add-put-cell : tie.Need-overflow_add-at-3
 add-put-cell c = search rules
 
-put-cell-requires : tie.Need-put-cell-requires
+put-cell-requires : tie.Need-put_cell-requires
 put-cell-requires c κs = search rules
 
 after-requires : tie.Need-after-requires
 after-requires c κs = search rules
 
-returns-2 : tie.Need-returns-2
+returns-2 : tie.Need-returns
 returns-2 c =
-    let s = c.before.before.before.before.before.before.before.before.before.before.args in
-    let y = c.before.before.before.before.before.before.before.cell.ensures in
-    divided _ _ y c.before.before.before.before.before.before.if1.false
-    (wrote s.cells.now (byte s.p.now (s.at + 1)) c.after.ensures c.before.put-cell.ensures
-    (c.before.before.before.div.ensures ∙ (λ i. div_of (c.before.before.before.before.cell2.ensures i) (y i))))
+    let s = c.args in
+    let y = c.cell-y.ensures in
+    divided _ _ y c.if-y-eq0.false
+    (wrote s.cells.now (byte s.p.now (s.at + 1)) c.after.ensures c.put_cell.ensures
+    (c.div-v.ensures ∙ (λ i. div_of (c.cell.ensures i) (y i))))
 
-pub div-spec : {M : Type 1} → statement M
-div-spec =
+pub div_spec : {M : Type 1} → statement M
+div_spec =
     tie.close
     (tie.spec
     add-cell

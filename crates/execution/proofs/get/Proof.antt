@@ -9,37 +9,37 @@ use borrow.Author.Rules.{rules}
 use Rattle.execution.proofs.get.Statement.{statement}
 use Rattle.execution.proofs.get.Tie as tie
 
-add-cell : tie.Need-overflow-add-cell
+add-cell : tie.Need-overflow_add-at
 add-cell c = search rules
 
-cell-requires : tie.Need-cell-requires
+cell-requires : tie.Need-cell-i-requires
 cell-requires c κs = search rules
 
-add-table-cell : tie.Need-overflow-add-table-cell
+add-table-cell : tie.Need-overflow_add-at-2
 add-table-cell c = search rules
 
-shared-slice-read-table-cell : tie.Need-shared-slice-read-table-cell
+shared-slice-read-table-cell : tie.Need-bounds-p-at
 shared-slice-read-table-cell c = search rules
 
-add-table-cell-2 : tie.Need-overflow-add-table-cell-2
+add-table-cell-2 : tie.Need-overflow_add-at-3
 add-table-cell-2 c = search rules
 
-shared-slice-read-table-cell-2 : tie.Need-shared-slice-read-table-cell-2
+shared-slice-read-table-cell-2 : tie.Need-bounds-p-at-2
 shared-slice-read-table-cell-2 c = search rules
 
-table-cell-requires : tie.Need-table-cell-requires
+table-cell-requires : tie.Need-table_cell-c-requires
 table-cell-requires c κs = search rules
 
-mul-v : tie.Need-overflow-mul-v
+mul-v : tie.Need-offset_bounds-cells-c
 mul-v c = search rules
 
-element-copy-out-v : tie.Need-element-copy-out-v
+element-copy-out-v : tie.Need-bounds-cells-c
 element-copy-out-v c = search rules
 
-add-put-cell : tie.Need-overflow-add-put-cell
+add-put-cell : tie.Need-overflow_add-at-4
 add-put-cell c = search rules
 
-put-cell-requires : tie.Need-put-cell-requires
+put-cell-requires : tie.Need-put_cell-requires
 put-cell-requires c κs = search rules
 
 after-requires : tie.Need-after-requires
@@ -47,11 +47,11 @@ after-requires c κs = search rules
 
 returns : tie.Need-returns
 returns c =
-    let s = c.before.before.before.before.before.before.before.before.before.before.args in
-    let i = c.before.before.before.before.before.before.before.cell.ensures in
-    wrote s.cells.now (byte s.p.now (s.at + 1)) c.after.ensures c.before.put-cell.ensures
+    let s = c.args in
+    let i = c.cell-i.ensures in
+    wrote s.cells.now (byte s.p.now (s.at + 1)) c.after.ensures c.put_cell.ensures
     (ap (cells_in s.cells.now)
-    (c.before.before.before.before.table-cell.ensures.0 ∙ ap (table_cell_of (byte s.p.now (s.at + 2)) (byte s.p.now (s.at + 3))) i))
+    (c.table_cell-c.ensures.0 ∙ ap (table_cell_of (byte s.p.now (s.at + 2)) (byte s.p.now (s.at + 3))) i))
 
 pub get_spec : {M : Type 1} → statement M
 get_spec =

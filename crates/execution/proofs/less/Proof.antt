@@ -7,13 +7,13 @@ use borrow.Author.Rules.{rules}
 use Rattle.execution.proofs.less.Statement.{statement}
 use Rattle.execution.proofs.less.Tie as tie
 
-add-cell : tie.Need-overflow-add-cell
+add-cell : tie.Need-overflow_add-at
 add-cell c = search rules
 
 cell-requires : tie.Need-cell-requires
 cell-requires c κs = search rules
 
-add-cell-2 : tie.Need-overflow-add-cell-2
+add-cell-2 : tie.Need-overflow_add-at-2
 add-cell-2 c = search rules
 
 cell-requires-2 : tie.Need-cell-requires-2
@@ -22,32 +22,32 @@ cell-requires-2 c κs = search rules
 less-requires : tie.Need-less-requires
 less-requires c κs = search rules
 
-add-load16 : tie.Need-overflow-add-load16
+add-load16 : tie.Need-overflow_add-at-then-less
 add-load16 c = search rules
 
 load16-requires : tie.Need-load16-requires
 load16-requires c κs = search rules
 
-cast-result : tie.Need-overflow-cast-result
+cast-result : tie.Need-overflow_cast-result
 cast-result c = search rules
 
-returns : tie.Need-returns
+returns : tie.Need-returns-then-less
 returns c =
     jumped _
-    (c.before.before.less.ensures ∙ (λ i. less_of (c.before.before.before.before.cell.ensures i) (c.before.before.before.cell2.ensures i)))
-    c.before.if1.true c.load16.ensures
+    (c.less.ensures ∙ (λ i. less_of (c.cell.ensures i) (c.cell-2.ensures i)))
+    c.if-less.true c.load16.ensures
 
 after-requires : tie.Need-after-requires
 after-requires c κs = search rules
 
-returns-2 : tie.Need-returns-2
+returns-2 : tie.Need-returns
 returns-2 c =
     passed _
-    (c.before.before.less.ensures ∙ (λ i. less_of (c.before.before.before.before.cell.ensures i) (c.before.before.before.cell2.ensures i)))
-    c.before.if1.false c.after.ensures
+    (c.less.ensures ∙ (λ i. less_of (c.cell.ensures i) (c.cell-2.ensures i)))
+    c.if-less.false c.after.ensures
 
-pub less-spec : {M : Type 1} → statement M
-less-spec =
+pub less_spec : {M : Type 1} → statement M
+less_spec =
     tie.close
     (tie.spec
     add-cell

@@ -9,25 +9,25 @@ use borrow.Author.Rules.{rules}
 use Rattle.execution.proofs.sub.Statement.{statement}
 use Rattle.execution.proofs.sub.Tie as tie
 
-add-cell : tie.Need-overflow-add-cell
+add-cell : tie.Need-overflow_add-at
 add-cell c = search rules
 
 cell-requires : tie.Need-cell-requires
 cell-requires c κs = search rules
 
-add-cell-2 : tie.Need-overflow-add-cell-2
+add-cell-2 : tie.Need-overflow_add-at-2
 add-cell-2 c = search rules
 
 cell-requires-2 : tie.Need-cell-requires-2
 cell-requires-2 c κs = search rules
 
-sub-requires : tie.Need-sub-requires
+sub-requires : tie.Need-sub-v-requires
 sub-requires c κs = search rules
 
-add-put-cell : tie.Need-overflow-add-put-cell
+add-put-cell : tie.Need-overflow_add-at-3
 add-put-cell c = search rules
 
-put-cell-requires : tie.Need-put-cell-requires
+put-cell-requires : tie.Need-put_cell-requires
 put-cell-requires c κs = search rules
 
 after-requires : tie.Need-after-requires
@@ -35,10 +35,10 @@ after-requires c κs = search rules
 
 returns : tie.Need-returns
 returns c =
-    let s = c.before.before.before.before.before.before.before.before.before.args in
-    wrote s.cells.now (byte s.p.now (s.at + 1)) c.after.ensures c.before.put-cell.ensures
-    (c.before.before.before.sub.ensures
-    ∙ (λ i. sub_of (c.before.before.before.before.before.before.cell.ensures i) (c.before.before.before.before.cell2.ensures i)))
+    let s = c.args in
+    wrote s.cells.now (byte s.p.now (s.at + 1)) c.after.ensures c.put_cell.ensures
+    (c.sub-v.ensures
+    ∙ (λ i. sub_of (c.cell.ensures i) (c.cell-2.ensures i)))
 
 pub sub_spec : {M : Type 1} → statement M
 sub_spec =

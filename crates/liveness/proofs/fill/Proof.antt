@@ -33,8 +33,8 @@ loop-less c = omega arith
 
 loop-again : tie.Need-loop-i-preserved invariant-loop decreases-loop
 loop-again c =
-    let l = c.before.before.before.before.before in
-    let s = l.before.before.before in
+    let l = c in
+    let s = l in
     filled-turn s.args.n s.args.cells s.args.dead.now s.requires.1 c.loop-i-test.true
     l.below-all.ensures c.store.ensures l.loop-i.invariant
 

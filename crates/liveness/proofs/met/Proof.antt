@@ -49,9 +49,9 @@ intersection-requires-2 c κs = search rules
 
 returns : tie.Need-returns
 returns c =
-    let c₄ = c.before.before.before.before in
-    let c₁ = c₄.before.before.before.before in
-    let s = c₁.before.before.before.before in
+    let c₄ = c in
+    let c₁ = c₄ in
+    let s = c₁ in
     made s.args.reads.now s.args.writes.now s.args.dead.now s.args.i s.args.l s.args.r
     c₁.load-old.ensures
     c₄.load.ensures

@@ -42,9 +42,9 @@ array-share-prefix-links c = search rules
 
 slice-aggregate-drain-2 : tie.Need-slice_bounds-drain-end-2
 slice-aggregate-drain-2 c =
-    let t = c.before.before.before.before.before.before.before.before.before.before.before.before.before in
-    let s = t.before.before.before.before.before.before.before.before in
-    sym (length-take-le (length s.args.left.now) t.thread.new.1.1.0 (omega (arith, s.requires.0.few, t.thread.auto.1.1.0)))
+    let t = c in
+    let s = t in
+    sym (length-take-le (length s.args.left.now) t.thread.new.links (omega (arith, s.requires.0.few, t.thread.auto.links)))
 
 slice-aggregate-drain-3 : tie.Need-slice_bounds-drain-end-3
 slice-aggregate-drain-3 c = search rules
@@ -54,11 +54,11 @@ slice-aggregate-drain-4 c = search rules
 
 drain-requires : tie.Need-drain-requires
 drain-requires c κs =
-    let f = c.before.before.before.before.before.before.before in
-    let p = f.before.before.before.before in
-    let t = p.before.before.before.before.before in
-    let s = t.before.before.before.before.before.before.before.before in (
-      begun s.requires.0 t.thread.auto.1.0 t.thread.auto.1.1.0 t.thread.ensures p.push_all-top.ensures.0 p.push_all-top.ensures.1,
+    let f = c in
+    let p = f in
+    let t = p in
+    let s = t in (
+      begun s.requires.0 t.thread.auto.heads t.thread.auto.links t.thread.ensures p.push_all-top.ensures.0 p.push_all-top.ensures.1,
       rooms-full s.requires.1 f.fill.ensures,
     )
 

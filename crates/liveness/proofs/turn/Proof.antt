@@ -24,7 +24,7 @@ same_length c = search rules
 
 returns : tie.Need-returns-then-equal
 returns c =
-    unchanged c.load.ensures c.met-new.ensures (c.equal.ensures.0 c.if-equal.true)
+    unchanged c.load-old.ensures c.met-new.ensures (c.equal.ensures.0 c.if-equal.true)
 
 mul-store : tie.Need-overflow_mul-i-2
 mul-store c = search rules
@@ -37,12 +37,12 @@ same-length-2 c = search rules
 
 returns-2 : tie.Need-returns
 returns-2 c =
-    let c₁ = c.before.before.before.before in
-    let c₀ = c₁.before.before.before.before in
+    let c₁ = c in
+    let c₀ = c₁ in
     changed
-    c₀.load.ensures
+    c₀.load-old.ensures
     c₁.met-new.ensures
-    c₀.before.before.before.before.before.requires.0
+    c₀.requires.0
     c.store.ensures
     (λ e. false≢true (sym c₁.if-equal.false ∙ c₁.equal.ensures.1 e))
 

@@ -1,6 +1,5 @@
 -- `marks::exclude_mark` meets its contract: each way out is a row of `excluded`.
 -- Assumes nothing.
-use borrow.Author.Tests.{not-true, not-false}
 use borrow.Author.Rules.{rules}
 use Rattle.marks.proofs.exclude_mark.Statement.{statement}
 use Rattle.marks.proofs.exclude_mark.Tie as tie
@@ -9,7 +8,7 @@ returns : tie.Need-returns-then-de
 returns c = search rules
 
 returns-2 : tie.Need-returns-then-not-ro
-returns-2 c = rw (c.if-de.false, not-true c.args.ro c.if-not-ro.true)
+returns-2 c = rw (c.if-de.false, c.if-not-ro.true)
 
 enum_told : tie.Need-enum_told-1
 enum_told c = search rules
@@ -25,23 +24,23 @@ enum-told-4 c = search rules
 
 returns-3 : tie.Need-returns-in-Include
 returns-3 c =
-    let s = c.before.before.before in
-    rw (c.if-de.false, not-false s.args.ro c.if-not-ro.false, c.in-Include.is)
+    let s = c in
+    rw (c.if-de.false, c.if-not-ro.false, c.in-Include.is)
 
 returns-4 : tie.Need-returns-in-Pending
 returns-4 c =
-    let s = c.before.before.before in
-    rw (c.if-de.false, not-false s.args.ro c.if-not-ro.false, c.in-Pending.is)
+    let s = c in
+    rw (c.if-de.false, c.if-not-ro.false, c.in-Pending.is)
 
 returns-5 : tie.Need-returns-in-Kept
 returns-5 c =
-    let s = c.before.before.before in
-    rw (c.if-de.false, not-false s.args.ro c.if-not-ro.false, c.in-Kept.is)
+    let s = c in
+    rw (c.if-de.false, c.if-not-ro.false, c.in-Kept.is)
 
 returns-6 : tie.Need-returns-in-Dead
 returns-6 c =
-    let s = c.before.before.before in
-    rw (c.if-de.false, not-false s.args.ro c.if-not-ro.false, c.in-Dead.is)
+    let s = c in
+    rw (c.if-de.false, c.if-not-ro.false, c.in-Dead.is)
 
 pub exclude_mark_spec : {M : Type 1} → statement M
 exclude_mark_spec =

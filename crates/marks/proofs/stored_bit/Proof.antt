@@ -19,7 +19,7 @@ cast-result c = search rules
 
 returns : tie.Need-returns
 returns c =
-    let s = c.before.before.before in
+    let s = c in
     store_in s.args.marks.now s.args.c (search rules) c.from_byte.ensures c.is_stored.ensures
 
 pub stored_bit_spec : {M : Type 1} → statement M

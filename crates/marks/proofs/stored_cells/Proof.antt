@@ -27,7 +27,7 @@ intersection-requires c κs = search rules
 
 returns : tie.Need-returns
 returns c =
-    let w = c.before.before.before.before.before in
+    let w = c in
     let a = w.args in
     let all = made-set _
     (made-near a.n a.marks.now 0 (omega arith) (search rules) w.word_below.ensures)

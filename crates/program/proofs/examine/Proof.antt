@@ -5,28 +5,28 @@ use borrow.Author.Rules.{rules}
 use Rattle.program.proofs.examine.Statement.{statement}
 use Rattle.program.proofs.examine.Tie as tie
 
-check-into-requires : tie.Need-check-into-requires
+check-into-requires : tie.Need-check_into-answer-requires
 check-into-requires c κs = search rules
 
-enum-known-answer : tie.Need-enum-known-answer
+enum-known-answer : tie.Need-enum_known-answer
 enum-known-answer c = search rules
 
 clear-requires : tie.Need-clear-requires
 clear-requires c κs = search rules
 
-enum_told : tie.Need-enum-told
+enum_told : tie.Need-enum_told-1
 enum_told c = search rules
 
-returns : tie.Need-returns
+returns : tie.Need-returns-in-Refused
 returns c =
-    let told = c.before.before.before in
-    let answer = told.before.before in
-    examined-refused answer.check-into.ensures told.answer.given.1 answer.before.before.before.requires c.clear.ensures
+    let told = c in
+    let answer = told in
+    examined-refused answer.check_into-answer.ensures told.in-Refused.is answer.requires c.clear.ensures
 
-returns-2 : tie.Need-returns-2
-returns-2 c = examined c.before.before.check-into.ensures c.enum_told.given.1
+returns-2 : tie.Need-returns-in-Program
+returns-2 c = examined c.check_into-answer.ensures c.in-Program.is
 
-pub examine-spec : {M : Type 1} → statement M
-examine-spec =
+pub examine_spec : {M : Type 1} → statement M
+examine_spec =
     tie.close
     (tie.spec check-into-requires enum-known-answer clear-requires enum_told returns returns-2)

@@ -16,8 +16,8 @@ returns c = push_kept c.if-flags-i.true
 slice-write-flags : tie.Need-bounds-flags-i-2
 slice-write-flags c = search rules
 
-left : (c : tie.Else-flags-i) → let s = c.before.before in s.args.top < length s.args.list.now
-left c = let s = c.before.before in room-left _ s.requires.0 s.requires.1 c.if-flags-i.false
+left : (c : tie.Else-flags-i) → let s = c in s.args.top < length s.args.list.now
+left c = let s = c in room-left _ s.requires.0 s.requires.1 c.if-flags-i.false
 
 mul-list : tie.Need-offset_bounds-list-top
 mul-list c = let l = left c in search rules

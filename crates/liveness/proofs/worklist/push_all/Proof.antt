@@ -48,7 +48,7 @@ loop-again : tie.Need-loop-k-preserved invariant-loop decreases-loop
 loop-again c =
     let one = c.push_path-top in
     let two = c.push_path-top-in-loop-k in
-    all_more (all-turn c.loop-k.invariant one.auto.0 one.auto.1.0 one.ensures) _ two.auto.0 two.auto.1.0 two.ensures
+    all_more (all-turn c.loop-k.invariant one.auto.list one.auto.flags one.ensures) _ two.auto.list two.auto.flags two.ensures
 
 same_length : tie.Need-shape_of-list invariant-loop decreases-loop
 same_length c = c.loop-k.invariant.list_size

@@ -17,7 +17,7 @@ abbrev decreases-loop : tie.decreases-loop-rest
 decreases-loop list₀ flags₀ first links e top₀ rest₀ list flags top rest = rest
 
 loop-holds : tie.Need-loop-rest-init invariant-loop decreases-loop
-loop-holds c = let s = c.before.before.before in along-first s.requires.0 s.requires.2
+loop-holds c = let s = c in along-first s.requires.0 s.requires.2
 
 sub-k : tie.Need-overflow_sub-k invariant-loop decreases-loop
 sub-k c = c.loop-rest-test.true
@@ -27,7 +27,7 @@ number : (c : tie.In-loop-rest invariant-loop decreases-loop) → c.before.loop-
 number c = along-number c.before.loop-rest.invariant c.loop-rest-test.true
 
 push-requires : tie.Need-push-top-requires invariant-loop decreases-loop
-push-requires c κs = let at_test = c.before.before in may-push at_test.loop-rest.invariant.pushes (number at_test)
+push-requires c κs = let at_test = c in may-push at_test.loop-rest.invariant.pushes (number at_test.before.before)
 
 cast-rest : tie.Need-overflow_cast-rest invariant-loop decreases-loop
 cast-rest c = let l = number c.before.before.before.before.before.before.before in search rules
@@ -40,13 +40,13 @@ shared-slice-read-rest c = number c.before.before.before.before.before.before.be
 
 loop-less : tie.Need-loop-rest-smaller invariant-loop decreases-loop
 loop-less c =
-    let at_test = c.before.before.before.before.before.before.before.before in
-    omega (arith, at_test.requires.1 _ (number at_test), at_test.loop-rest-test.true)
+    let at_test = c in
+    omega (arith, at_test.requires.1 _ (number at_test.before.before.before.before.before.before.before.before), at_test.loop-rest-test.true)
 
 loop-again : tie.Need-loop-rest-preserved invariant-loop decreases-loop
 loop-again c =
-    let at_push = c.before.before.before.before.before in
-    let at_test = at_push.before.before.before in
+    let at_push = c in
+    let at_test = at_push in
     along-turn at_test.loop-rest.invariant at_test.loop-rest-test.true at_test.requires.1 at_push.push-top.ensures
 
 same_length : tie.Need-shape_of-list invariant-loop decreases-loop

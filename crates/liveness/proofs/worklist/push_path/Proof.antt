@@ -1,6 +1,7 @@
 -- `liveness::worklist::push_path` meets its contract. The invariant: the first number of the path is pushed, or it is that of the turn.
 -- The measure is how many flags are unset, for each turn sets one.
 -- Assumes nothing.
+use Rattle.std.proofs.Common.{ap, not}
 use Prim.Native.Nat.{◌-◌}
 use lib.ListN.{length}
 use borrow.Author.Rules.{rules}
@@ -16,7 +17,7 @@ abbrev decreases-loop : tie.decreases-loop-flags
 decreases-loop list₀ flags₀ first left k top₀ i₀ list flags top i = length flags - count flags
 
 loop-holds : tie.Need-loop-flags-init invariant-loop decreases-loop
-loop-holds c = let s = c.before.before.before in way-first s.requires.0 s.requires.2
+loop-holds c = let s = c in way-first s.requires.0 s.requires.2
 
 cast-if1 : tie.Need-overflow_cast-i invariant-loop decreases-loop
 cast-if1 c = let l = c.loop-flags.invariant.node in search rules
@@ -38,14 +39,14 @@ shared-slice-read-i c = c.loop-flags.invariant.node
 
 loop-less : tie.Need-loop-flags-smaller invariant-loop decreases-loop
 loop-less c =
-    let at_push = c.before.before.before.before.before in
-    let at_test = at_push.before.before.before in
-    way-less at_test.loop-flags.invariant at_push.push-top.ensures at_test.loop-flags-test.true
+    let at_push = c in
+    let at_test = at_push in
+    way-less at_test.loop-flags.invariant at_push.push-top.ensures (ap not at_test.loop-flags-test.true)
 
 loop-again : tie.Need-loop-flags-preserved invariant-loop decreases-loop
 loop-again c =
-    let at_push = c.before.before.before.before.before in
-    let at-loop = at_push.before.before.before.before.before in
+    let at_push = c in
+    let at-loop = at_push in
     way-turn at-loop.loop-flags.invariant at_push.push-top.ensures at-loop.requires.1
 
 same_length : tie.Need-shape_of-list invariant-loop decreases-loop
@@ -55,7 +56,7 @@ same-length-2 : tie.Need-shape_of-flags invariant-loop decreases-loop
 same-length-2 c = c.loop-flags.invariant.pushes.flags_size
 
 returns : tie.Need-returns invariant-loop decreases-loop
-returns c = way-done c.loop-flags.invariant c.loop-flags-test.false
+returns c = way-done c.loop-flags.invariant (ap not c.loop-flags-test.false)
 
 pub push_path_spec : {M : Type 1} → statement M
 push_path_spec =

@@ -21,7 +21,7 @@ same-length-2 : tie.Need-shape_of-flags-then-i-eq0
 same-length-2 c = search rules
 
 returns : tie.Need-returns-then-i-eq0
-returns c = let at-chain = c.before.before.before.before in visit-first at-chain.if-i-eq0.true at-chain.push_chain.ensures
+returns c = let at-chain = c in visit-first at-chain.if-i-eq0.true at-chain.push_chain.ensures
 
 sub-push : tie.Need-overflow_sub-i
 sub-push c = search rules
@@ -31,8 +31,8 @@ push-requires c κs = search rules
 
 push-chain-requires-2 : tie.Need-push_chain-requires-2
 push-chain-requires-2 c κs =
-    let at_push = c.before.before.before.before.before.before in
-    let at_test = at_push.before.before.before in
+    let at_push = c in
+    let at_test = at_push in
     let pre = at_test.requires in
     (visit-queue pre.0 pre.2 at_test.if-i-eq0.false at_push.push-next.ensures, pre.1, pre.4)
 
@@ -44,9 +44,9 @@ same-length-4 c = search rules
 
 returns-2 : tie.Need-returns
 returns-2 c =
-    let at-chain = c.before.before.before.before in
-    let at_push = at-chain.before.before.before.before.before.before.before in
-    let at_test = at_push.before.before.before in
+    let at-chain = c in
+    let at_push = at-chain in
+    let at_test = at_push in
     let pre = at_test.requires in
     visit-next pre.0 pre.2 at_test.if-i-eq0.false at_push.push-next.ensures at-chain.push_chain-2.ensures
 

@@ -42,7 +42,7 @@ room c =
     (omega (arith, s.requires.3 _ c.loop-k-test.true, s.requires.2, r.invariant.heads_size), omega (arith, s.requires.1, r.invariant.links_size, c.loop-k-test.true))
 
 cast-t-2 : tie.Need-overflow_cast-t-in-loop-k invariant-loop decreases-loop
-cast-t-2 c = let s = c.before.before.before in record { fits = omega (arith, s.requires.3 _ c.loop-k-test.true, s.requires.0) }
+cast-t-2 c = let s = c in record { fits = omega (arith, s.requires.3 _ c.loop-k-test.true, s.requires.0) }
 
 mul-links : tie.Need-offset_bounds-heads-t invariant-loop decreases-loop
 mul-links c = let l = room c.before in search rules
@@ -76,8 +76,8 @@ loop-less c = omega (arith, c.loop-k-test.true)
 
 loop-again : tie.Need-loop-k-preserved invariant-loop decreases-loop
 loop-again c =
-    let at_test = c.before.before in
-    let r = room at_test in
+    let at_test = c in
+    let r = room at_test.before.before in
     threaded-turn _ _ _ _ _ _ at_test.loop-k.invariant _ refl at_test.loop-k-test.true r.0 r.1
 
 same_length : tie.Need-shape_of-heads invariant-loop decreases-loop

@@ -6,38 +6,38 @@ use borrow.Author.Rules.{rules}
 use Rattle.program.proofs.jumps.note.Statement.{statement}
 use Rattle.program.proofs.jumps.note.Tie as tie
 
-enum_told : tie.Need-enum-told
+enum_told : tie.Need-enum_told-1
 enum_told c = search rules
 
-enum-told-2 : tie.Need-enum-told-2
+enum-told-2 : tie.Need-enum_told-in-Next
 enum-told-2 c = search rules
 
-enum-known-flow : tie.Need-enum-known-flow
+enum-known-flow : tie.Need-enum_known-flow
 enum-known-flow c = search rules
 
-put-target-requires : tie.Need-put-target-requires
+put-target-requires : tie.Need-put_target-requires
 put-target-requires c κs = search rules
 
-enum-known-flow-2 : tie.Need-enum-known-flow-2
+enum-known-flow-2 : tie.Need-enum_known-flow-in-Branch-1
 enum-known-flow-2 c = search rules
 
-put-target-requires-2 : tie.Need-put-target-requires-2
+put-target-requires-2 : tie.Need-put_target-requires-in-Branch
 put-target-requires-2 c κs = search rules
 
-returns : tie.Need-returns
-returns c = rw c.enum_told.given.1 (omega arith, refl)
+returns : tie.Need-returns-in-Halt
+returns c = rw c.in-Halt.is (omega arith, refl)
 
-returns-2 : tie.Need-returns-2
-returns-2 c = rw c.enum-told2.given.1 (omega arith, refl)
+returns-2 : tie.Need-returns-in-Next
+returns-2 c = rw c.in-Next.is (omega arith, refl)
 
-returns-3 : tie.Need-returns-3
-returns-3 c = rw c.before.before.before.flow.given.1 c.put-target.ensures
+returns-3 : tie.Need-returns-in-Goto
+returns-3 c = rw c.in-Goto.is c.put_target.ensures
 
-returns-4 : tie.Need-returns-4
-returns-4 c = rw c.before.before.before.flow2.given.1 c.put-target2.ensures
+returns-4 : tie.Need-returns-in-Branch
+returns-4 c = rw c.in-Branch.is c.put_target-in-Branch.ensures
 
-pub note-spec : {M : Type 1} → statement M
-note-spec =
+pub note_spec : {M : Type 1} → statement M
+note_spec =
     tie.close
     (tie.spec
     enum_told

@@ -6,25 +6,25 @@ use borrow.Author.Rules.{rules}
 use Rattle.program.proofs.places.place_at.Statement.{statement}
 use Rattle.program.proofs.places.place_at.Tie as tie
 
-element-copy-out-read-place : tie.Need-element-copy-out-read-place
+element-copy-out-read-place : tie.Need-bounds-table-t
 element-copy-out-read-place c = search rules
 
-read-place-requires : tie.Need-read-place-requires
+read-place-requires : tie.Need-read_place-requires
 read-place-requires c κs = search rules
 
-returns : tie.Need-returns
+returns : tie.Need-returns-then-t-lt2048
 unfolding entry_at
-returns c = rw (lt-ltb _ _ c.before.before.if1.true) c.read-place.ensures
+returns c = rw (lt-ltb _ _ c.if-t-lt2048.true) c.read_place.ensures
 
-read-place-requires-2 : tie.Need-read-place-requires-2
+read-place-requires-2 : tie.Need-read_place-requires-2
 read-place-requires-2 c κs = search rules
 
-returns-2 : tie.Need-returns-2
+returns-2 : tie.Need-returns
 unfolding entry_at
-returns-2 c = rw (le-ltb _ _ c.before.if1.false) c.read-place2.ensures
+returns-2 c = rw (le-ltb _ _ c.if-t-lt2048.false) c.read_place-2.ensures
 
-pub place-at-spec : {M : Type 1} → statement M
-place-at-spec =
+pub place_at_spec : {M : Type 1} → statement M
+place_at_spec =
     tie.close
     (tie.spec
     element-copy-out-read-place

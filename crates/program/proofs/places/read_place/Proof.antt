@@ -8,15 +8,15 @@ use Rattle.program.specs.Places.{exclude_here, read_place}
 use Rattle.program.proofs.places.read_place.Statement.{statement}
 use Rattle.program.proofs.places.read_place.Tie as tie
 
-sub-exclude : tie.Need-overflow-sub-exclude
+sub-exclude : tie.Need-overflow_sub-exclude
 sub-exclude c = search rules
 
 returns : tie.Need-returns
 unfolding read_place
 returns c =
-    let b = c.before.args.entry in
-    let e : c.if1.exclude ≡ exclude_here b = ⊎_elim (λ came. came.1) (λ came. omega (arith, came.0.left, came.1)) c.if1.branch in
+    let b = c.args.entry in
+    let e : c.if-entry-gt3.exclude ≡ exclude_here b = ⊎_elim (λ came. came.1) (λ came. omega (arith, came.0.left, came.1)) c.if-entry-gt3.branch in
     rw e
 
-pub read-place-spec : {M : Type 1} → statement M
-read-place-spec = tie.close (tie.spec sub-exclude returns)
+pub read_place_spec : {M : Type 1} → statement M
+read_place_spec = tie.close (tie.spec sub-exclude returns)

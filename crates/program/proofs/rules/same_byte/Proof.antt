@@ -4,11 +4,11 @@ use borrow.Author.Tests.{eq-eqb, ne_eqb}
 use Rattle.program.proofs.rules.same_byte.Statement.{statement}
 use Rattle.program.proofs.rules.same_byte.Tie as tie
 
-returns : tie.Need-returns
-returns c = rw (eq-eqb _ _ c.if1.true)
+returns : tie.Need-returns-then-a-b
+returns c = rw (eq-eqb _ _ c.if-a-b.true)
 
-returns-2 : tie.Need-returns-2
-returns-2 c = rw (ne_eqb _ _ c.if1.false)
+returns-2 : tie.Need-returns-else-a-b
+returns-2 c = rw (ne_eqb _ _ c.if-a-b.false)
 
-pub same-byte-spec : {M : Type 1} → statement M
-same-byte-spec = tie.close (tie.spec returns returns-2)
+pub same_byte_spec : {M : Type 1} → statement M
+same_byte_spec = tie.close (tie.spec returns returns-2)
