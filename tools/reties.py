@@ -213,6 +213,15 @@ def turn(path, it, name):
         if l not in lemma_goal.values() and not l.startswith(("invariant-", "decreases-")):
             said.append(f"gone {l}")
     goal_of = {v: k for k, v in lemma_goal.items()}
+    head = re.sub(rf"\.type-inv\b", ".type_inv", head)
+    head = re.sub(rf"\.well-formed\b", ".well_formed", head)
+    # a goal that is no longer asked: its lemma goes
+    for l in given.split():
+        if l not in goal_of and not l.startswith(("invariant-", "decreases-")):
+            block = re.search(rf"(?m)^{re.escape(l)} : tie\.Need-.*\n(?:(?!\n).*\n)*\n", head)
+            rest = head[: block.start()] + head[block.end() :] if block else head
+            if block and not re.search(rf"(?<![\w.'\-]){re.escape(l)}(?![\w'\-])", rest):
+                head = rest
     returns = {}
     for m in re.finditer(rf"(?m)^(?:abbrev )?({WORD}) : tie\.({WORD}) → tie\.({WORD})$", head):
         if plain(m.group(3)) in pl.index:

@@ -64,15 +64,15 @@ module _ (p : List ℕ) (o : ℕ) where
 
 -- ---- command by command
 
-first_range : {p os : List ℕ} {n : ℕ} → FirstBad p n os → (2 ≤ n) × (n ≤ 5)
+first_range : {p : List ℕ} {n : ℕ} {os : List ℕ} → FirstBad p n os → (2 ≤ n) × (n ≤ 5)
 first_range (here b h) = bad-range b
 first_range (later h r) = first_range r
 
 -- there is one first ground
-first_one : {p os : List ℕ} {m n : ℕ} → FirstBad p m os → FirstBad p n os → m ≡ n
-first_one {p} {os} {m} {n} (here b h) (here c k) = order m n (λ l. absurd (k m l b)) (λ l. absurd (h n l c)) (λ e. e)
-first_one {p} {os} {m} {n} (here b h) (later k s) = absurd (k m b)
-first_one {p} {os} {m} {n} (later h r) (here c k) = absurd (h n c)
+first_one : {p : List ℕ} {m n : ℕ} {os : List ℕ} → FirstBad p m os → FirstBad p n os → m ≡ n
+first_one {p} {m} {n} {os} (here b h) (here c k) = order m n (λ l. absurd (k m l b)) (λ l. absurd (h n l c)) (λ e. e)
+first_one {p} {m} {n} {os} (here b h) (later k s) = absurd (k m b)
+first_one {p} {m} {n} {os} (later h r) (here c k) = absurd (h n c)
 first_one (later h r) (later k s) = first_one r s
 
 -- no instruction has a ground, or the first refusal is the first ground

@@ -11,9 +11,6 @@ use Rattle.execution.proofs.after.Tie as tie
 cast-result : tie.Need-overflow_cast-result
 cast-result c = search rules
 
-array-read-result : tie.Need-array-read-result
-array-read-result c = search rules
-
 cast-result-2 : tie.Need-overflow_cast-result-3
 cast-result-2 c = entry-fits c.args.opcode (search rules)
 

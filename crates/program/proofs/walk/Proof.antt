@@ -67,7 +67,7 @@ cast-excludes : tie.Need-overflow_cast-excludes invariant-loop decreases-loop
 cast-excludes c = search rules
 
 add-excludes : tie.Need-overflow_add-excludes invariant-loop decreases-loop
-add-excludes c = omega (arith, c.same_byte.type-inv)
+add-excludes c = omega (arith, c.same_byte.type_inv)
 
 none : (c : tie.After-same_byte invariant-loop decreases-loop) →
     let at_length = c.before.before.before.before.before.before.before.before in
@@ -103,7 +103,7 @@ loop-again c =
           at-flow.instruction_at.ensures at-flow.flow_of.ensures c.note-jumps.ensures.0 c.note-jumps.ensures.1 c.same_byte.ensures f q),
       omega (arith, long c),
       omega (arith, long c),
-      omega (arith, c.same_byte.type-inv),
+      omega (arith, c.same_byte.type_inv),
       turning-room _ _ _ at_head.loop-at.invariant.4 at_length.length_in-len.ensures at-flow.instruction_at.ensures at-flow.flow_of.ensures c.note-jumps.ensures.0,
     )
 

@@ -20,7 +20,7 @@ returns c =
 add-if2 : tie.Need-overflow_add-at
 add-if2 c =
     let at-start = c in
-    omega (arith, at-start.requires.1, length_most (byte at-start.args.p.now at-start.args.at), at-start.well-formed.0)
+    omega (arith, at-start.requires.1, length_most (byte at-start.args.p.now at-start.args.at), at-start.well_formed.0)
 
 returns-2 : tie.Need-returns-then-p-at
 returns-2 c =
