@@ -227,7 +227,7 @@ def turn(path, it, name):
         if plain(m.group(3)) in pl.index:
             returns[m.group(1)] = pl.index[plain(m.group(3))]
     whole = {}
-    for m in re.finditer(rf"(?m)^module _ .*\(({WORD}) : tie\.({WORD})\)", head):
+    for m in re.finditer(rf"(?m)^module _ .*\(({WORD}) : tie\.({WORD})[^()]*\)", head):
         if plain(m.group(2)) in pl.index:
             whole[m.group(1)] = ("place", pl.index[plain(m.group(2))])
 
@@ -252,7 +252,7 @@ def turn(path, it, name):
                 words = m.group(1).split()
                 if words:
                     kinds["c" if "c" in words else words[0]] = ("place", pl.asked[g])
-        for m in re.finditer(rf"\(({WORD}) : tie\.({WORD})\)", block):
+        for m in re.finditer(rf"\(({WORD}) : tie\.({WORD})[^()]*\)", block):
             if plain(m.group(2)) in pl.index:
                 kinds[m.group(1)] = ("place", pl.index[plain(m.group(2))])
         m = re.search(rf"(?m)^(?:abbrev )?({WORD}) : tie\.({WORD}) →.*\n(?:.*\n)*?\1 ({WORD}) ", block)
@@ -272,6 +272,16 @@ def turn(path, it, name):
                     got = argument(pl, inner.group(2), kinds[inner.group(2)][1], takes[inner.group(1)], said)
                     if got:
                         root = f"({inner.group(1)} {got})"
+                elif kind is None:
+                    kind = ("step",)
+
+                    def inside(w):
+                        if w.group(1).startswith("("):
+                            return w.group(0)
+                        got, end = walk(pl, kinds.get(w.group(1)), w.group(2)[1:].split("."), said)
+                        return ".".join([w.group(1)] + got)
+
+                    root = "(" + PATH.sub(inside, root[1:-1]) + ")"
             else:
                 kind = kinds.get(root)
             renamed, end = walk(pl, kind, fields, said)
@@ -319,6 +329,9 @@ def turn(path, it, name):
         return m.group(0)
 
     head = re.sub(rf"(?<![\w.])tie\.({WORD})", place, head)
+    # a test of `!b` says now what b is
+    head = re.sub(r"\(not-(?:true|false) (?:\([^()]*\)|[^\s()]+) ([\w.'\-₀₁₂]*\.if-not-[\w.\-]*\.(?:true|false))\)", r"\1", head)
+    head = re.sub(r"\bnot-(?:true|false) (?:\([^()]*\)|[^\s()]+) ([\w.'\-₀₁₂]*\.if-not-[\w.\-]*\.(?:true|false))", r"\1", head)
     order, extra = [l for l in given.split() if l.startswith(("invariant-", "decreases-"))], []
     for _, new in it["needs"]:
         if new in lemma_goal:

@@ -2,6 +2,8 @@
 // or two instructions that each goes on to, and the cells that it may read and must write. `tables`
 // fills all of it for a program that check passes, as `Tables` of specs/Tables.antt says; what the
 // numbers are good for, crates above take from proofs/Numbers.antt.
+#![tactic(auto)]
+
 ghost use Rattle.std.specs.Prelude.{◌≡◌, ℕ, ◌+◌, ◌*◌, ◌≤◌, ◌<◌, length, get_or, set};
 ghost use Rattle.instruction.specs.Table.{row_of, may_ref_of, must_def_of};
 ghost use Rattle.graph.specs.Tables.{count_of, Passed, Offsets, Numbered, left_of, right_of_flow, Space, Tables, Stored};

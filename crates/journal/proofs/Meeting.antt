@@ -79,7 +79,7 @@ past-meets m l i h = rw (drop_of_length-le l h) Meets.cut
 pub meets_at : {m : List ℕ} (l : List ℕ) (i n : ℕ) → Meets m (drop i l) → length m ≡ n → i + n ≤ length l → drop i l ≡ m ++ drop (i + n) l
 meets_at {m} l i n h e k = meets-whole h (omega (arith, length-drop i l)) ∙ ap (λ (t : List ℕ). m ++ t) (rw e (drop-drop n i l))
 
-meets-cons : {x y : ℕ} {m l : List ℕ} → Meets (x ∷ m) (y ∷ l) → (y ≡ x) × Meets m l
+pub meets-cons : {x y : ℕ} {m l : List ℕ} → Meets (x ∷ m) (y ∷ l) → (y ≡ x) × Meets m l
 meets-cons (Meets.same h) = (refl, h)
 
 -- a byte that is there is the first, and the rest meets what stands behind it

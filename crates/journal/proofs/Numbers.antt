@@ -7,7 +7,7 @@ use Rattle.word.specs.Bytes.{bytes_of, number_of, load_of}
 use Rattle.word.proofs.Bytes.{length-bytes, number-bytes, bytes-number, number_lt, load_lt, load-number}
 use Rattle.cellset.proofs.Bits.{le-or-lt}
 use Rattle.journal.specs.Parts.{Decides, Meets, Number, byte_at}
-use Rattle.journal.proofs.Meeting.{decides, meets_at, meets-first}
+use Rattle.journal.proofs.Meeting.{decides, meets_at, meets-first, meets-cons}
 
 -- each is a byte
 abbrev pub Small : List ℕ → Type 0
@@ -95,8 +95,9 @@ filled-most : (w : ℕ) (l : List ℕ) (v : ℕ) → v < 256 ^ w → Meets (byte
 unfolding filled bytes_of number_of
 filled-most zero l v h m = omega arith
 filled-most (suc w) [] v h m = omega (arith, filled-most w [] (v / 256) ((div-lt_iff_lt-mul {k = 256} (omega arith)).1 (rw pow-suc at h)) Meets.cut)
-filled-most (suc w) (x ∷ l) v h (Meets.same m) =
-    omega (arith, filled-most w l (v / 256) ((div-lt_iff_lt-mul {k = 256} (omega arith)).1 (rw pow-suc at h)) m)
+filled-most (suc w) (x ∷ l) v h m =
+    let s : (x ≡ v % 256) × Meets (bytes_of w (v / 256)) l = meets-cons m in
+    omega (arith, s.0, filled-most w l (v / 256) ((div-lt_iff_lt-mul {k = 256} (omega arith)).1 (rw pow-suc at h)) s.1)
 
 -- so the test of the largest decides whether they begin one that is not below `least`
 most-decides : (w : ℕ) (l : List ℕ) (least : ℕ) → Small l → Decides (Number (λ v. least ≤ v) w l) (leb least (number_of (filled w l)))

@@ -104,6 +104,7 @@ records-absent c (x ∷ cs) values h =
 
 -- what rises lies at or above the bound
 rising-above : {b c : ℕ} {cs : List ℕ} → Rising b cs → In c cs → b ≤ c
+rising-above Rising.end i = elim i [ ]
 rising-above (Rising.next h r) In.here = h
 rising-above (Rising.next h r) (In.there i) = let l = rising-above r i in omega arith
 

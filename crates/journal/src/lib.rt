@@ -5,6 +5,8 @@
 // alone: decoding is unique, a torn checkpoint is never taken for a whole one, and storing and
 // erasing in order leave a journal that reads back as the checkpoints whose final byte was stored
 // (proofs/Decoding.antt, Torn.antt, Back.antt, Storing.antt).
+#![tactic(auto)]
+
 mod fields;
 pub mod owners;
 pub mod pages;

@@ -10,34 +10,34 @@ use borrow.Author.Rules.{rules}
 use Rattle.graph.proofs.link.Statement.{statement}
 use Rattle.graph.proofs.link.Tie as tie
 
-flow-of-requires : tie.Need-flow-of-requires
+flow-of-requires : tie.Need-flow_of-requires
 flow-of-requires c κs = search rules
 
-left-of-requires : tie.Need-left-of-requires
+left-of-requires : tie.Need-left_of-requires
 left-of-requires c κs = search rules
 
-mul_left : tie.Need-overflow-mul-left
+mul_left : tie.Need-offset_bounds-left-i
 mul_left c = search rules
 
-slice-write-left : tie.Need-slice-write-left
+slice-write-left : tie.Need-bounds-left-i
 slice-write-left c = search rules
 
-flow-of-requires-2 : tie.Need-flow-of-requires-2
+flow-of-requires-2 : tie.Need-flow_of-requires-2
 flow-of-requires-2 c κs = search rules
 
-right-of-requires : tie.Need-right-of-requires
+right-of-requires : tie.Need-right_of-requires
 right-of-requires c κs = search rules
 
-mul_right : tie.Need-overflow-mul-right
+mul_right : tie.Need-offset_bounds-right-i
 mul_right c = search rules
 
-slice-write-right : tie.Need-slice-write-right
+slice-write-right : tie.Need-bounds-right-i
 slice-write-right c = search rules
 
-same_length : tie.Need-same-length
+same_length : tie.Need-shape_of-left
 same_length c = search rules
 
-same-length-2 : tie.Need-same-length-2
+same-length-2 : tie.Need-shape_of-right
 same-length-2 c = search rules
 
 -- the way of the flow that was looked up
@@ -47,13 +47,13 @@ way g table i numbers e d = rw (e, d)
 
 returns : tie.Need-returns
 returns c =
-    let args = c.before.before.before.before.before.before.before.args in (
-      way left_of args.left.now _ _ c.before.before.left-of.ensures c.before.before.before.flow-of.ensures,
-      way right_of_flow args.right.now _ _ c.right_of.ensures c.before.flow-of2.ensures,
+    let args = c.args in (
+      way left_of args.left.now _ _ c.left_of.ensures c.flow_of.ensures,
+      way right_of_flow args.right.now _ _ c.right_of.ensures c.flow_of-2.ensures,
     )
 
-pub link-spec : {M : Type 1} → statement M
-link-spec =
+pub link_spec : {M : Type 1} → statement M
+link_spec =
     tie.close
     (tie.spec
     flow-of-requires

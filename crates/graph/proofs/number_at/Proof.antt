@@ -6,17 +6,17 @@ use borrow.Author.Rules.{rules}
 use Rattle.graph.proofs.number_at.Statement.{statement}
 use Rattle.graph.proofs.number_at.Tie as tie
 
-mul-result : tie.Need-overflow-mul-result
+mul-result : tie.Need-offset_bounds-numbers-at
 mul-result c = search rules
 
-shared-slice-read-result : tie.Need-shared-slice-read-result
+shared-slice-read-result : tie.Need-bounds-numbers-at
 shared-slice-read-result c = search rules
 
-returns : tie.Need-returns
+returns : tie.Need-returns-then-at-numbers
 returns c = search rules
 
-returns-2 : tie.Need-returns-2
-returns-2 c = sym (get_or-eq_default c.before.args.numbers.now 0 c.if1.false)
+returns-2 : tie.Need-returns-else-at-numbers
+returns-2 c = sym (get_or-eq_default c.args.numbers.now 0 c.if-at-numbers.false)
 
-pub number-at-spec : {M : Type 1} → statement M
-number-at-spec = tie.close (tie.spec mul-result shared-slice-read-result returns returns-2)
+pub number_at_spec : {M : Type 1} → statement M
+number_at_spec = tie.close (tie.spec mul-result shared-slice-read-result returns returns-2)

@@ -5,38 +5,38 @@ use Rattle.journal.proofs.Trimming.{Kept, kept-first, kept-turn, kept-done, kept
 use Rattle.journal.proofs.content.Statement.{statement}
 use Rattle.journal.proofs.content.Tie as tie
 
-abbrev invariant-loop : tie.invariant-loop
+abbrev invariant-loop : tie.invariant-loop-r
 invariant-loop l r₀ r = Kept l r
 
-abbrev decreases-loop : tie.decreases-loop
+abbrev decreases-loop : tie.decreases-loop-r
 decreases-loop l r₀ r = r
 
-loop-holds : tie.Need-loop-init invariant-loop decreases-loop
+loop-holds : tie.Need-loop-r-init invariant-loop decreases-loop
 loop-holds c = kept-first _
 
-sub-if1 : tie.Need-overflow-sub-if1 invariant-loop decreases-loop
+sub-if1 : tie.Need-overflow_sub-r invariant-loop decreases-loop
 sub-if1 c = search rules
 
-shared-slice-read-if1 : tie.Need-shared-slice-read-if1 invariant-loop decreases-loop
-shared-slice-read-if1 c = let most = c.before.before.loop.invariant.most in omega arith
+shared-slice-read-if1 : tie.Need-bounds-l-r invariant-loop decreases-loop
+shared-slice-read-if1 c = let most = c.loop-r.invariant.most in omega arith
 
-returns : tie.Need-returns invariant-loop decreases-loop
-returns c = kept-done _ (omega arith) c.if1.true c.before.before.before.loop.invariant
+returns : tie.Need-returns-then-l-r invariant-loop decreases-loop
+returns c = kept-done _ (omega arith) c.if-l-r.true c.loop-r.invariant
 
-sub-r : tie.Need-overflow-sub-r invariant-loop decreases-loop
+sub-r : tie.Need-overflow_sub-r-in-loop-r invariant-loop decreases-loop
 sub-r c = search rules
 
-loop-less : tie.Need-loop-smaller invariant-loop decreases-loop
+loop-less : tie.Need-loop-r-smaller invariant-loop decreases-loop
 loop-less c = omega arith
 
-loop-again : tie.Need-loop-preserved invariant-loop decreases-loop
-loop-again c = kept-turn _ (omega arith) c.if1.false c.before.before.before.loop.invariant
+loop-again : tie.Need-loop-r-preserved invariant-loop decreases-loop
+loop-again c = kept-turn _ (omega arith) c.if-l-r.false c.loop-r.invariant
 
-returns-2 : tie.Need-returns-2 invariant-loop decreases-loop
-returns-2 c = kept-none (omega arith) c.before.loop.invariant
+returns-2 : tie.Need-returns invariant-loop decreases-loop
+returns-2 c = kept-none (omega arith) c.loop-r.invariant
 
-pub content-spec : {M : Type 1} → statement M
-content-spec =
+pub content_spec : {M : Type 1} → statement M
+content_spec =
     tie.close
     (tie.spec
     invariant-loop

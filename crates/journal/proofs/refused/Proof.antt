@@ -8,5 +8,5 @@ use Rattle.journal.proofs.refused.Tie as tie
 returns : tie.Need-returns
 returns c = (refl, blank 256 refl)
 
-pub refused-spec : {M : Type 1} → statement M
-refused-spec = tie.close (tie.spec returns)
+pub refused_spec : {M : Type 1} → statement M
+refused_spec = tie.close (tie.spec returns)

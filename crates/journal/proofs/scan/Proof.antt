@@ -11,52 +11,52 @@ use Rattle.journal.proofs.Joining.{joined, unread}
 use Rattle.journal.proofs.scan.Statement.{statement}
 use Rattle.journal.proofs.scan.Tie as tie
 
-is-length-requires : tie.Need-is-length-requires
+is-length-requires : tie.Need-is_length-requires
 is-length-requires c κs = search rules
 
 refused-requires : tie.Need-refused-requires
 refused-requires c κs = search rules
 
-returns : tie.Need-returns
+returns : tie.Need-returns-then-not-is_length
 returns c =
-    let size = c.before.before.is-length in
+    let size = c.is_length in
     let r = c.refused.result in
-    scan-is _ _ r.answer r.values (unread _ _ r (sym size.ensures ∙ not-true size.result c.before.if1.true) c.refused.ensures)
+    scan-is _ _ r.answer r.values (unread _ _ r (sym size.ensures ∙ c.if-not-is_length.true) c.refused.ensures)
 
-content-requires : tie.Need-content-requires
+content-requires : tie.Need-content-t-requires
 content-requires c κs = search rules
 
-slice-aggregate-walk : tie.Need-slice-aggregate-walk
-slice-aggregate-walk c = sym (length-take-le _ c.before.before.before.before.before.args.journal.now c.before.content.ensures.most)
+slice-aggregate-walk : tie.Need-slice_bounds-walk-end
+slice-aggregate-walk c = sym (length-take-le _ c.args.journal.now c.content-t.ensures.most)
 
-add-walk : tie.Need-overflow-add-walk
+add-walk : tie.Need-overflow_add-highest
 add-walk c = search rules
 
-kind-of-requires : tie.Need-kind-of-requires
+kind-of-requires : tie.Need-kind_of-requires
 kind-of-requires c κs = search rules
 
 walk-requires : tie.Need-walk-requires
 walk-requires c κs =
-    let t = c.before.before.content in
-    let size = c.before.before.before.before.is-length in
-    let s = c.before.before.before.before.before.before in
+    let t = c.content-t in
+    let size = c.is_length in
+    let s = c in
     let n = length-take-le t.result s.args.journal.now t.ensures.most in
-    let h = chip-length _ _ (sym size.ensures ∙ not-false size.result c.before.before.before.if1.false) in
-    (omega (arith, n, t.ensures.most, h.most), omega (arith, s.ranges.highest), h.some, h.few, c.kind-of.ensures.1)
+    let h = chip-length _ _ (sym size.ensures ∙ c.if-not-is_length.false) in
+    (omega (arith, n, t.ensures.most, h.most), omega (arith, s.ranges.highest), h.some, h.few, c.kind_of.ensures.1)
 
-returns-2 : tie.Need-returns-2
+returns-2 : tie.Need-returns
 returns-2 c =
-    let at-content = c.before.before.before in
-    let size = at-content.before.before.is-length in
-    let a = at-content.before.before.before.before.args in
+    let at-content = c in
+    let size = at-content.is_length in
+    let a = at-content.args in
     let r = c.walk.result in
-    let w = subst (λ (kind : ℕ). WalkIs (facts_in (format_of a.page kind a.owner) (a.highest + 1) a.table.now) (take at-content.content.result a.journal.now) r.answer r.values)
-    c.before.kind-of.ensures.0 c.walk.ensures in
+    let w = subst (λ (kind : ℕ). WalkIs (facts_in (format_of a.page kind a.owner) (a.highest + 1) a.table.now) (take at-content.content-t.result a.journal.now) r.answer r.values)
+    c.kind_of.ensures.0 c.walk.ensures in
     scan-is _ _ r.answer r.values
-    (joined _ r.answer r.values (sym size.ensures ∙ not-false size.result at-content.before.if1.false) at-content.content.ensures w)
+    (joined _ r.answer r.values (sym size.ensures ∙ at-content.if-not-is_length.false) at-content.content-t.ensures w)
 
-pub scan-spec : {M : Type 1} → statement M
-scan-spec =
+pub scan_spec : {M : Type 1} → statement M
+scan_spec =
     tie.close
     (tie.spec
     is-length-requires

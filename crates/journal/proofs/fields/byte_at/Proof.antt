@@ -6,14 +6,14 @@ use Rattle.journal.proofs.Numbers.{byte-here}
 use Rattle.journal.proofs.fields.byte_at.Statement.{statement}
 use Rattle.journal.proofs.fields.byte_at.Tie as tie
 
-shared-slice-read-result : tie.Need-shared-slice-read-result
+shared-slice-read-result : tie.Need-bounds-l-i
 shared-slice-read-result c = search rules
 
-returns : tie.Need-returns
-returns c = byte-here c.before.before.args.l.now c.before.before.args.i c.before.if1.true
+returns : tie.Need-returns-then-i-l
+returns c = byte-here c.args.l.now c.args.i c.if-i-l.true
 
-returns-2 : tie.Need-returns-2
-returns-2 c = sym (get_or-eq_default c.before.args.l.now 0xFF c.if1.false)
+returns-2 : tie.Need-returns-else-i-l
+returns-2 c = sym (get_or-eq_default c.args.l.now 0xFF c.if-i-l.false)
 
-pub byte-at-spec : {M : Type 1} → statement M
-byte-at-spec = tie.close (tie.spec shared-slice-read-result returns returns-2)
+pub byte_at_spec : {M : Type 1} → statement M
+byte_at_spec = tie.close (tie.spec shared-slice-read-result returns returns-2)

@@ -10,8 +10,8 @@ load32-requires c κs = search rules
 
 returns : tie.Need-returns
 returns c =
-    let s = c.before.before in
-    count-whole s.args.l.now s.args.i s.args.least (λ k. (c.before.shared-slice-known.given k).fits) (omega arith) c.load32.ensures
+    let s = c in
+    count-whole s.args.l.now s.args.i s.args.least (λ k. (c.shared_slice_known-1.given k).fits) (omega arith) c.load32.ensures
 
-pub count-whole-spec : {M : Type 1} → statement M
-count-whole-spec = tie.close (tie.spec load32-requires returns)
+pub count_whole_spec : {M : Type 1} → statement M
+count_whole_spec = tie.close (tie.spec load32-requires returns)

@@ -9,79 +9,79 @@ use Rattle.journal.proofs.Fieldwise.{fields-parts, begun-fields}
 use Rattle.journal.proofs.fields.fields_begin.Statement.{statement}
 use Rattle.journal.proofs.fields.fields_begin.Tie as tie
 
-add-if1 : tie.Need-overflow-add-if1
+add-if1 : tie.Need-overflow_add-width
 add-if1 c = search rules
 
-add-if1-2 : tie.Need-overflow-add-if1-2
+add-if1-2 : tie.Need-overflow_add-i
 add-if1-2 c = search rules
 
-fields-whole-requires : tie.Need-fields-whole-requires
+fields-whole-requires : tie.Need-fields_whole-requires
 fields-whole-requires c κs = search rules
 
-returns : tie.Need-returns
-returns c G n z = c.fields-whole.ensures G n z
+returns : tie.Need-returns-then-i-width
+returns c G n z = c.fields_whole.ensures G n z
 
-offset-begins-requires : tie.Need-offset-begins-requires
+offset-begins-requires : tie.Need-offset_begins-requires
 offset-begins-requires c κs = search rules
 
-returns-2 : tie.Need-returns-2
+returns-2 : tie.Need-returns-then-not-offset_begins
 returns-2 c G n z f =
-    let s = c.before.before.before.before in
-    let d = c.before.offset-begins in
-    decides-no d.result (not-true d.result c.if2.true) (d.ensures G n) (fields-parts s.args.l.now s.args.i f).place
+    let s = c in
+    let d = c.offset_begins in
+    decides-no d.result c.if-not-offset_begins.true (d.ensures G n) (fields-parts s.args.l.now s.args.i f).place
 
-add-offset-begins : tie.Need-overflow-add-offset-begins
+add-offset-begins : tie.Need-overflow_add-i-2
 add-offset-begins c = search rules
 
-offset-begins-requires-2 : tie.Need-offset-begins-requires-2
+offset-begins-requires-2 : tie.Need-offset_begins-requires-2
 offset-begins-requires-2 c κs = search rules
 
-returns-3 : tie.Need-returns-3
+returns-3 : tie.Need-returns-then-not-offset_begins-2
 returns-3 c G n z f =
-    let s = c.before.before.before.before.before.before in
-    let d = c.before.offset-begins2 in
-    decides-no d.result (not-true d.result c.if3.true) (d.ensures G n) (fields-parts s.args.l.now s.args.i f).exclude
+    let s = c in
+    let d = c.offset_begins-2 in
+    decides-no d.result c.if-not-offset_begins-2.true (d.ensures G n) (fields-parts s.args.l.now s.args.i f).exclude
 
-add-count-begins : tie.Need-overflow-add-count-begins
+add-count-begins : tie.Need-overflow_add-i-3
 add-count-begins c = search rules
 
-count-begins-requires : tie.Need-count-begins-requires
+count-begins-requires : tie.Need-count_begins-requires
 count-begins-requires c κs = search rules
 
-returns-4 : tie.Need-returns-4
+returns-4 : tie.Need-returns-then-not-count_begins
 returns-4 c G n z f =
-    let s = c.before.before.before.before.before.before.before.before in
-    let d = c.before.count-begins in
-    decides-no d.result (not-true d.result c.if4.true) d.ensures (fields-parts s.args.l.now s.args.i f).readings
+    let s = c in
+    let d = c.count_begins in
+    decides-no d.result c.if-not-count_begins.true d.ensures (fields-parts s.args.l.now s.args.i f).readings
 
-add-count-begins-2 : tie.Need-overflow-add-count-begins-2
+add-count-begins-2 : tie.Need-overflow_add-i-4
 add-count-begins-2 c = search rules
 
-count-begins-requires-2 : tie.Need-count-begins-requires-2
+count-begins-requires-2 : tie.Need-count_begins-requires-2
 count-begins-requires-2 c κs = search rules
 
-returns-5 : tie.Need-returns-5
+returns-5 : tie.Need-returns-then-not-count_begins-2
 returns-5 c G n z f =
-    let s = c.before.before.before.before.before.before.before.before.before.before in
-    let d = c.before.count-begins2 in
-    decides-no d.result (not-true d.result c.if5.true) d.ensures (fields-parts s.args.l.now s.args.i f).outputs
+    let s = c in
+    let d = c.count_begins-2 in
+    decides-no d.result c.if-not-count_begins-2.true d.ensures (fields-parts s.args.l.now s.args.i f).outputs
 
-returns-6 : tie.Need-returns-6
+returns-6 : tie.Need-returns
 returns-6 c G n z =
-    let s = c.before.before.before.before.before.before.before.before.before.before in
-    let p = c.before.before.before.before.before.before.before.offset-begins in
-    let x = c.before.before.before.before.before.offset-begins2 in
-    let r = c.before.before.before.count-begins in
-    let o = c.before.count-begins2 in
-    begun-fields {F = facts_in G n s.args.table.now} s.args.l.now s.args.i (s.args.i + (12 + s.args.width)) (λ k. (c.before.before.before.before.before.before.before.before.before.shared-slice-known.given k).fits)
-    (decides-yes p.result (not-false p.result c.before.before.before.before.before.before.if2.false) (p.ensures G n))
-    (decides-yes x.result (not-false x.result c.before.before.before.before.if3.false) (x.ensures G n))
-    (decides-yes r.result (not-false r.result c.before.before.if4.false) r.ensures)
-    (decides-yes o.result (not-false o.result c.if5.false) o.ensures)
+    let s = c in
+    let p = c.offset_begins in
+    let x = c.offset_begins-2 in
+    let r = c.count_begins in
+    let o = c.count_begins-2 in
+    begun-fields {F = facts_in G n s.args.table.now} s.args.l.now s.args.i (s.args.i + (12 + s.args.width)) (λ k. (c.shared_slice_known-1.given k).fits)
+    (decides-yes p.result c.if-not-offset_begins.false (p.ensures G n))
+    (decides-yes x.result c.if-not-offset_begins-2.false (x.ensures G n))
+    (decides-yes r.result c.if-not-count_begins.false r.ensures)
+    (decides-yes o.result c.if-not-count_begins-2.false o.ensures)
     (omega (arith, z)) (past-meets (0x5A ∷ []) s.args.l.now (s.args.i + (12 + s.args.width)) (omega arith))
 
-pub fields-begin-spec : {M : Type 1} → statement M
-fields-begin-spec =
+pub fields_begin_spec : {M : Type 1} → statement M
+fields_begin_spec =
     tie.close
     (tie.spec
     add-if1

@@ -6,51 +6,51 @@ use Rattle.journal.proofs.Offsets.{offset-nothing, offset-low, offset-whole}
 use Rattle.journal.proofs.fields.offset_begins.Statement.{statement}
 use Rattle.journal.proofs.fields.offset_begins.Tie as tie
 
-some-offset-requires : tie.Need-some-offset-requires
+some-offset-requires : tie.Need-some_offset-requires
 some-offset-requires c κs = search rules
 
-returns : tie.Need-returns
+returns : tie.Need-returns-then-l-i
 returns c G n =
-    let s = c.before.before.before in
-    offset-nothing (facts_in G n s.args.table.now) s.args.excludes s.args.l.now s.args.i c.some-offset.result
-    c.before.if1.true (c.some-offset.ensures G n)
+    let s = c in
+    offset-nothing (facts_in G n s.args.table.now) s.args.excludes s.args.l.now s.args.i c.some_offset.result
+    c.if-l-i.true (c.some_offset.ensures G n)
 
-add-if2 : tie.Need-overflow-add-if2
+add-if2 : tie.Need-overflow_add-i
 add-if2 c = search rules
 
-shared-slice-read-some-offset : tie.Need-shared-slice-read-some-offset
+shared-slice-read-some-offset : tie.Need-bounds-l-i
 shared-slice-read-some-offset c = search rules
 
-cast-some-offset : tie.Need-overflow-cast-some-offset
-cast-some-offset c = omega (arith, c.shared-slice-known2.given c.before.before.before.before.args.i)
+cast-some-offset : tie.Need-overflow_cast-l
+cast-some-offset c = omega (arith, c.shared_slice_known-then-l-i-2-1.given c.args.i)
 
-some-offset-requires-2 : tie.Need-some-offset-requires-2
-some-offset-requires-2 c κs = ((c.shared-slice-known2.given c.before.before.before.before.args.i).fits, omega arith)
+some-offset-requires-2 : tie.Need-some_offset-requires-then-l-i-2
+some-offset-requires-2 c κs = ((c.shared_slice_known-then-l-i-2-1.given c.args.i).fits, omega arith)
 
-returns-2 : tie.Need-returns-2
+returns-2 : tie.Need-returns-then-l-i-2
 returns-2 c G n =
-    let s = c.before.before.before.before.before in
-    offset-low (facts_in G n s.args.table.now) s.args.excludes s.args.l.now s.args.i c.some-offset2.result
-    c.before.before.before.if1.false c.before.before.if2.true (c.some-offset2.ensures G n)
+    let s = c in
+    offset-low (facts_in G n s.args.table.now) s.args.excludes s.args.l.now s.args.i c.some_offset-then-l-i-2.result
+    c.if-l-i.false c.if-l-i-2.true (c.some_offset-then-l-i-2.ensures G n)
 
 load16-requires : tie.Need-load16-requires
 load16-requires c κs = search rules
 
-cast-offset-is : tie.Need-overflow-cast-offset-is
+cast-offset-is : tie.Need-overflow_cast-load16
 cast-offset-is c = search rules
 
-offset-is-requires : tie.Need-offset-is-requires
+offset-is-requires : tie.Need-offset_is-requires
 offset-is-requires c κs = search rules
 
-returns-3 : tie.Need-returns-3
+returns-3 : tie.Need-returns
 returns-3 c G n =
-    let s = c.before.before.before.before.before in
-    offset-whole (facts_in G n s.args.table.now) s.args.excludes s.args.l.now s.args.i c.offset-is.result
-    (λ k. (c.before.before.before.before.shared-slice-known.given k).fits) c.before.before.if2.false
-    c.before.load16.ensures (c.offset-is.ensures G n)
+    let s = c in
+    offset-whole (facts_in G n s.args.table.now) s.args.excludes s.args.l.now s.args.i c.offset_is.result
+    (λ k. (c.shared_slice_known-1.given k).fits) c.if-l-i-2.false
+    c.load16.ensures (c.offset_is.ensures G n)
 
-pub offset-begins-spec : {M : Type 1} → statement M
-offset-begins-spec =
+pub offset_begins_spec : {M : Type 1} → statement M
+offset_begins_spec =
     tie.close
     (tie.spec
     some-offset-requires

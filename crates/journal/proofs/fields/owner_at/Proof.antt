@@ -12,14 +12,14 @@ load-none l i e = rw e
 load-four : (l : List ℕ) (i : ℕ) {k x : ℕ} → ¬ (k ≡ 0) → k ≤ 1 → x ≡ load_of 4 l i → x ≡ load_of (4 * k) l i
 load-four l i {k} a b e = let z : k ≡ 1 = omega arith in rw z e
 
-returns : tie.Need-returns
-returns c = load-none _ c.before.before.args.i c.if1.true
+returns : tie.Need-returns-then-kind-eq0
+returns c = load-none _ c.args.i c.if-kind-eq0.true
 
 load32-requires : tie.Need-load32-requires
 load32-requires c κs = search rules
 
-returns-2 : tie.Need-returns-2
-returns-2 c = load-four _ c.before.before.before.args.i c.before.if1.false c.before.before.before.requires.1 c.load32.ensures
+returns-2 : tie.Need-returns
+returns-2 c = load-four _ c.args.i c.if-kind-eq0.false c.requires.1 c.load32.ensures
 
-pub owner-at-spec : {M : Type 1} → statement M
-owner-at-spec = tie.close (tie.spec returns load32-requires returns-2)
+pub owner_at_spec : {M : Type 1} → statement M
+owner_at_spec = tie.close (tie.spec returns load32-requires returns-2)

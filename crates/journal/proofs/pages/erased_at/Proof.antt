@@ -5,32 +5,32 @@ use Rattle.journal.proofs.Padding.{erased-first, erased-turn, erased-done, erase
 use Rattle.journal.proofs.pages.erased_at.Statement.{statement}
 use Rattle.journal.proofs.pages.erased_at.Tie as tie
 
-add-if1 : tie.Need-overflow-add-if1
+add-if1 : tie.Need-overflow_add-k
 add-if1 c = search rules
 
-add-if2 : tie.Need-overflow-add-if2
+add-if2 : tie.Need-overflow_add-k-then-k-to
 add-if2 c = search rules
 
 load32-requires : tie.Need-load32-requires
 load32-requires c κs = search rules
 
-returns : tie.Need-returns
+returns : tie.Need-returns-then-load32
 returns c =
-    let s = c.before.before.before.before in
-    (omega arith, erased-four s.before.args.l.now s.before.args.k (λ k. (s.shared-slice-known.given k).fits) c.before.before.if2.true c.before.load32.ensures c.if3.true, λ z. absurd (omega arith))
+    let s = c in
+    (omega arith, erased-four s.args.l.now s.args.k (λ k. (s.shared_slice_known-1.given k).fits) c.if-k-l.true c.load32.ensures c.if-load32.true, λ z. absurd (omega arith))
 
-byte-at-requires : tie.Need-byte-at-requires
+byte-at-requires : tie.Need-byte_at-requires
 byte-at-requires c κs = search rules
 
-returns-2 : tie.Need-returns-2
+returns-2 : tie.Need-returns-then-byte_at
 returns-2 c =
-    let s = c.before.before.before.before in
-    (omega arith, erased-turn (erased-first s.args.l.now s.args.k) c.before.byte_at.ensures c.if4.true, λ z. absurd (omega arith))
+    let s = c in
+    (omega arith, erased-turn (erased-first s.args.l.now s.args.k) c.byte_at.ensures c.if-byte_at.true, λ z. absurd (omega arith))
 
-returns-3 : tie.Need-returns-3
+returns-3 : tie.Need-returns-else-byte_at
 returns-3 c =
-    let s = c.before.before.before.before in
-    (omega arith, erased-done (erased-first s.args.l.now s.args.k) (omega arith), λ z e. c.if4.false (c.before.byte_at.ensures ∙ e))
+    let s = c in
+    (omega arith, erased-done (erased-first s.args.l.now s.args.k) (omega arith), λ z e. c.if-byte_at.false (c.byte_at.ensures ∙ e))
 
-pub erased-at-spec : {M : Type 1} → statement M
-erased-at-spec = tie.close (tie.spec add-if1 add-if2 load32-requires returns byte-at-requires returns-2 returns-3)
+pub erased_at_spec : {M : Type 1} → statement M
+erased_at_spec = tie.close (tie.spec add-if1 add-if2 load32-requires returns byte-at-requires returns-2 returns-3)

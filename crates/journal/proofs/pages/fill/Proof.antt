@@ -5,20 +5,20 @@ use Rattle.journal.proofs.Paging.{fill-byte, fill-full, fill-rest}
 use Rattle.journal.proofs.pages.fill.Statement.{statement}
 use Rattle.journal.proofs.pages.fill.Tie as tie
 
-returns : tie.Need-returns
-returns c = fill-byte _ c.before.args.n c.if1.true
+returns : tie.Need-returns-then-page-eq1
+returns c = fill-byte _ c.args.n c.if-page-eq1.true
 
-rem-over : tie.Need-nonzero-rem-over
+rem-over : tie.Need-nonzero_rem-over
 rem-over c = search rules
 
-returns-2 : tie.Need-returns-2
-returns-2 c = fill-full _ c.before.before.args.n c.before.before.requires c.if2.true
+returns-2 : tie.Need-returns-then-over-eq0
+returns-2 c = fill-full _ c.args.n c.requires c.if-over-eq0.true
 
-sub-result : tie.Need-overflow-sub-result
-sub-result c = let h = mod-lt c.before.before.args.n c.before.before.requires in omega (arith, h)
+sub-result : tie.Need-overflow_sub-result
+sub-result c = let h = mod-lt c.args.n c.requires in omega (arith, h)
 
-returns-3 : tie.Need-returns-3
-returns-3 c = fill-rest _ c.before.before.args.n c.before.before.requires c.if2.false
+returns-3 : tie.Need-returns
+returns-3 c = fill-rest _ c.args.n c.requires c.if-over-eq0.false
 
 pub fill_spec : {M : Type 1} → statement M
 fill_spec = tie.close (tie.spec returns rem-over returns-2 sub-result returns-3)

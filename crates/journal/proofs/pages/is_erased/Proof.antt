@@ -6,38 +6,38 @@ use Rattle.journal.proofs.Padding.{erased-first, erased-joined, erased-not, eras
 use Rattle.journal.proofs.pages.is_erased.Statement.{statement}
 use Rattle.journal.proofs.pages.is_erased.Tie as tie
 
-abbrev invariant-loop : tie.invariant-loop
+abbrev invariant-loop : tie.invariant-loop-k
 invariant-loop l from to k₀ k = (from ≤ k) × Erased l from k
 
-abbrev decreases-loop : tie.decreases-loop
+abbrev decreases-loop : tie.decreases-loop-k
 decreases-loop l from to k₀ k = to - k
 
-loop-holds : tie.Need-loop-init invariant-loop decreases-loop
+loop-holds : tie.Need-loop-k-init invariant-loop decreases-loop
 loop-holds c = (omega arith, erased-first _ _)
 
-erased-at-requires : tie.Need-erased-at-requires invariant-loop decreases-loop
+erased-at-requires : tie.Need-erased_at-some-requires invariant-loop decreases-loop
 erased-at-requires c κs = search rules
 
-returns : tie.Need-returns invariant-loop decreases-loop
+returns : tie.Need-returns-then-some-eq0 invariant-loop decreases-loop
 returns c =
-    erased-not c.before.before.before.before.before.args.l.now refl (c.before.erased-at.ensures.2 c.if1.true) c.before.before.before.loop.invariant.0 c.before.before.loop-test.true
+    erased-not c.args.l.now refl (c.erased_at-some.ensures.2 c.if-some-eq0.true) c.loop-k.invariant.0 c.loop-k-test.true
 
-add-k : tie.Need-overflow-add-k invariant-loop decreases-loop
-add-k c = omega (arith, c.before.erased-at.ensures.0, c.before.before.loop-test.true, c.before.before.before.before.before.requires)
+add-k : tie.Need-overflow_add-k invariant-loop decreases-loop
+add-k c = omega (arith, c.erased_at-some.ensures.0, c.loop-k-test.true, c.requires)
 
-loop-less : tie.Need-loop-smaller invariant-loop decreases-loop
-loop-less c = omega (arith, c.if1.false, c.before.before.loop-test.true)
+loop-less : tie.Need-loop-k-smaller invariant-loop decreases-loop
+loop-less c = omega (arith, c.if-some-eq0.false, c.loop-k-test.true)
 
-loop-again : tie.Need-loop-preserved invariant-loop decreases-loop
+loop-again : tie.Need-loop-k-preserved invariant-loop decreases-loop
 loop-again c =
-    let i = c.before.before.before.loop.invariant in
-    (omega (arith, i.0), erased-joined i.1 c.before.erased-at.ensures.1)
+    let i = c.loop-k.invariant in
+    (omega (arith, i.0), erased-joined i.1 c.erased_at-some.ensures.1)
 
-returns-2 : tie.Need-returns-2 invariant-loop decreases-loop
-returns-2 c = erased-done c.before.loop.invariant.1 c.loop-test.false
+returns-2 : tie.Need-returns invariant-loop decreases-loop
+returns-2 c = erased-done c.loop-k.invariant.1 c.loop-k-test.false
 
-pub is-erased-spec : {M : Type 1} → statement M
-is-erased-spec =
+pub is_erased_spec : {M : Type 1} → statement M
+is_erased_spec =
     tie.close
     (tie.spec
     invariant-loop

@@ -5,14 +5,14 @@ use Rattle.journal.proofs.Paging.{byte-whole}
 use Rattle.journal.proofs.pages.is_whole.Statement.{statement}
 use Rattle.journal.proofs.pages.is_whole.Tie as tie
 
-returns : tie.Need-returns
-returns c = byte-whole _ c.before.args.n c.if1.true
+returns : tie.Need-returns-then-page-eq1
+returns c = byte-whole _ c.args.n c.if-page-eq1.true
 
-rem-result : tie.Need-nonzero-rem-result
+rem-result : tie.Need-nonzero_rem-result
 rem-result c = search rules
 
-returns-2 : tie.Need-returns-2
+returns-2 : tie.Need-returns
 returns-2 c = search rules
 
-pub is-whole-spec : {M : Type 1} → statement M
-is-whole-spec = tie.close (tie.spec returns rem-result returns-2)
+pub is_whole_spec : {M : Type 1} → statement M
+is_whole_spec = tie.close (tie.spec returns rem-result returns-2)

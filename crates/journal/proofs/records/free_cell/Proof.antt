@@ -6,44 +6,44 @@ use Rattle.journal.proofs.Passing.{free-here, none_free}
 use Rattle.journal.proofs.records.free_cell.Statement.{statement}
 use Rattle.journal.proofs.records.free_cell.Tie as tie
 
-abbrev invariant-loop : tie.invariant-loop
+abbrev invariant-loop : tie.invariant-loop-k
 invariant-loop seen n stamp k₀ k = (k ≤ n) × ((j : ℕ) → j < k → get_or seen j 0 ≡ stamp)
 
-abbrev decreases-loop : tie.decreases-loop
+abbrev decreases-loop : tie.decreases-loop-k
 decreases-loop seen n stamp k₀ k = n - k
 
-loop-holds : tie.Need-loop-init invariant-loop decreases-loop
+loop-holds : tie.Need-loop-k-init invariant-loop decreases-loop
 loop-holds c = (omega arith, λ j h. absurd (omega arith))
 
-mul-if1 : tie.Need-overflow-mul-if1 invariant-loop decreases-loop
+mul-if1 : tie.Need-offset_bounds-seen-k invariant-loop decreases-loop
 mul-if1 c = search rules
 
-element-copy-out-if1 : tie.Need-element-copy-out-if1 invariant-loop decreases-loop
+element-copy-out-if1 : tie.Need-bounds-seen-k invariant-loop decreases-loop
 element-copy-out-if1 c = search rules
 
-returns : tie.Need-returns invariant-loop decreases-loop
+returns : tie.Need-returns-then-seen-k invariant-loop decreases-loop
 returns c =
-    let s = c.before.before.before.before in
-    free-here _ _ s.args.seen.now c.before.before.before.loop.k c.before.before.loop-test.true c.if1.true
+    let s = c in
+    free-here _ _ s.args.seen.now c.loop-k.k c.loop-k-test.true c.if-seen-k.true
 
-add-k : tie.Need-overflow-add-k invariant-loop decreases-loop
+add-k : tie.Need-overflow_add-k invariant-loop decreases-loop
 add-k c = search rules
 
-loop-less : tie.Need-loop-smaller invariant-loop decreases-loop
+loop-less : tie.Need-loop-k-smaller invariant-loop decreases-loop
 loop-less c = omega arith
 
-loop-again : tie.Need-loop-preserved invariant-loop decreases-loop
+loop-again : tie.Need-loop-k-preserved invariant-loop decreases-loop
 loop-again c =
-    let l = c.before.before.before in
-    (omega arith, below_next l.loop.k l.loop.invariant.1 c.if1.false)
+    let l = c in
+    (omega arith, below_next l.loop-k.k l.loop-k.invariant.1 c.if-seen-k.false)
 
-returns-2 : tie.Need-returns-2 invariant-loop decreases-loop
+returns-2 : tie.Need-returns invariant-loop decreases-loop
 returns-2 c =
-    let s = c.before.before in
-    none_free _ _ s.args.seen.now c.before.loop.k c.before.loop.invariant.1 (omega arith)
+    let s = c in
+    none_free _ _ s.args.seen.now c.loop-k.k c.loop-k.invariant.1 (omega arith)
 
-pub free-cell-spec : {M : Type 1} → statement M
-free-cell-spec =
+pub free_cell_spec : {M : Type 1} → statement M
+free_cell_spec =
     tie.close
     (tie.spec
     invariant-loop

@@ -5,75 +5,75 @@ use Rattle.journal.proofs.Passing.{Passing, passing-first, passing-turn, passing
 use Rattle.journal.proofs.records.records_end.Statement.{statement}
 use Rattle.journal.proofs.records.records_end.Tie as tie
 
-abbrev invariant-loop : tie.invariant-loop
+abbrev invariant-loop : tie.invariant-loop-i
 invariant-loop l at n seen₀ stamp i₀ seen i = Passing n l at seen i
 
-abbrev decreases-loop : tie.decreases-loop
+abbrev decreases-loop : tie.decreases-loop-i
 decreases-loop l at n seen₀ stamp i₀ seen i = length l - i
 
-cast-stamp : tie.Need-overflow-cast-stamp invariant-loop decreases-loop
+cast-stamp : tie.Need-overflow_cast-stamp invariant-loop decreases-loop
 cast-stamp c = search rules
 
-add-stamp : tie.Need-overflow-add-stamp invariant-loop decreases-loop
+add-stamp : tie.Need-overflow_add-stamp invariant-loop decreases-loop
 add-stamp c = search rules
 
-loop-holds : tie.Need-loop-init invariant-loop decreases-loop
+loop-holds : tie.Need-loop-i-init invariant-loop decreases-loop
 loop-holds c = passing-first _ _ _ _ c.requires.0 c.requires.3 c.requires.4
 
-add-loop : tie.Need-overflow-add-loop invariant-loop decreases-loop
-add-loop c = omega (arith, c.loop.invariant.most)
+add-loop : tie.Need-overflow_add-i invariant-loop decreases-loop
+add-loop c = omega (arith, c.loop-i.invariant.most)
 
-shared-slice-read-if1 : tie.Need-shared-slice-read-if1 invariant-loop decreases-loop
+shared-slice-read-if1 : tie.Need-bounds-l-i invariant-loop decreases-loop
 shared-slice-read-if1 c = search rules
 
-returns : tie.Need-returns invariant-loop decreases-loop
-returns c = passing-done c.before.before.before.loop.invariant (λ s t k. absurd (c.if1.true t))
+returns : tie.Need-returns-then-l-i invariant-loop decreases-loop
+returns c = passing-done c.loop-i.invariant (λ s t k. absurd (c.if-l-i.true t))
 
-add-x : tie.Need-overflow-add-x invariant-loop decreases-loop
+add-x : tie.Need-overflow_add-x invariant-loop decreases-loop
 add-x c = search rules
 
-shared-slice-read-x : tie.Need-shared-slice-read-x invariant-loop decreases-loop
+shared-slice-read-x : tie.Need-bounds-l-i-in-loop-i invariant-loop decreases-loop
 shared-slice-read-x c = search rules
 
-cast-x : tie.Need-overflow-cast-x invariant-loop decreases-loop
-cast-x c = omega (arith, c.shared-slice-known2.given (c.before.before.before.before.loop.i + 1))
+cast-x : tie.Need-overflow_cast-x invariant-loop decreases-loop
+cast-x c = omega (arith, c.shared_slice_known-in-loop-i-1.given (c.loop-i.i + 1))
 
-returns-2 : tie.Need-returns-2 invariant-loop decreases-loop
-returns-2 c = passing-done c.before.before.before.before.before.loop.invariant (λ s t k. absurd (omega (arith, c.if2.true)))
+returns-2 : tie.Need-returns-then-n-x invariant-loop decreases-loop
+returns-2 c = passing-done c.loop-i.invariant (λ s t k. absurd (omega (arith, c.if-n-x.true)))
 
-mul-if3 : tie.Need-overflow-mul-if3 invariant-loop decreases-loop
+mul-if3 : tie.Need-offset_bounds-seen-x invariant-loop decreases-loop
 mul-if3 c = search rules
 
-element-copy-out-if3 : tie.Need-element-copy-out-if3 invariant-loop decreases-loop
+element-copy-out-if3 : tie.Need-bounds-seen-x invariant-loop decreases-loop
 element-copy-out-if3 c = search rules
 
-returns-3 : tie.Need-returns-3 invariant-loop decreases-loop
-returns-3 c = passing-done c.before.before.before.before.before.before.before.loop.invariant (λ s t k. c.if3.true)
+returns-3 : tie.Need-returns-then-seen-x invariant-loop decreases-loop
+returns-3 c = passing-done c.loop-i.invariant (λ s t k. c.if-seen-x.true)
 
-mul-seen : tie.Need-overflow-mul-seen invariant-loop decreases-loop
+mul-seen : tie.Need-offset_bounds-seen-x-in-loop-i invariant-loop decreases-loop
 mul-seen c = search rules
 
-element-write-seen : tie.Need-element-write-seen invariant-loop decreases-loop
+element-write-seen : tie.Need-bounds-seen-x-in-loop-i invariant-loop decreases-loop
 element-write-seen c = search rules
 
-add-i : tie.Need-overflow-add-i invariant-loop decreases-loop
+add-i : tie.Need-overflow_add-i-in-loop-i invariant-loop decreases-loop
 add-i c = search rules
 
-loop-less : tie.Need-loop-smaller invariant-loop decreases-loop
+loop-less : tie.Need-loop-i-smaller invariant-loop decreases-loop
 loop-less c = omega arith
 
-loop-again : tie.Need-loop-preserved invariant-loop decreases-loop
+loop-again : tie.Need-loop-i-preserved invariant-loop decreases-loop
 loop-again c =
-    let k = c.before.before.before in
-    let l = k.before.before.before.before in
-    passing-turn l.loop.invariant l.before.requires.2 (λ j. (k.shared-slice-known2.given j).fits) k.before.before.before.loop-test.true
-    k.before.if1.false c.before.before.if2.false c.if3.false
+    let k = c in
+    let l = k in
+    passing-turn l.loop-i.invariant l.requires.2 (λ j. (k.shared_slice_known-in-loop-i-1.given j).fits) k.loop-i-test.true
+    k.if-l-i.false c.if-n-x.false c.if-seen-x.false
 
-returns-4 : tie.Need-returns-4 invariant-loop decreases-loop
-returns-4 c = passing-done c.before.loop.invariant (λ s t k. absurd (omega arith))
+returns-4 : tie.Need-returns invariant-loop decreases-loop
+returns-4 c = passing-done c.loop-i.invariant (λ s t k. absurd (omega arith))
 
-pub records-end-spec : {M : Type 1} → statement M
-records-end-spec =
+pub records_end_spec : {M : Type 1} → statement M
+records_end_spec =
     tie.close
     (tie.spec
     invariant-loop

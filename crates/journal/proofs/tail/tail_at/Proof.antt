@@ -14,94 +14,94 @@ readings_fit c = search rules
 outputs_fit : (c : tie.Start) → c.args.last.outputs < 2 ^ 32
 outputs_fit c = search rules
 
-some-offset-requires : tie.Need-some-offset-requires
+some-offset-requires : tie.Need-some_offset-requires
 some-offset-requires c κs = search rules
 
-returns : tie.Need-returns
-returns c page owner rs o s = none-cut c.before.before.before.before.args.l.now c.before.before.before.before.args.i c.before.some-offset.result c.before.before.if1.true (c.before.some-offset.ensures (format_of page c.before.before.before.before.args.kind owner) c.before.before.before.before.args.n) c.if2.true (readings_fit c.before.before.before.before) (outputs_fit c.before.before.before.before) o
+returns : tie.Need-returns-then-some_offset
+returns c page owner rs o s = none-cut c.args.l.now c.args.i c.some_offset.result c.if-l-i.true (c.some_offset.ensures (format_of page c.args.kind owner) c.args.n) c.if-some_offset.true (readings_fit c.before.before.before.before) (outputs_fit c.before.before.before.before) o
 
-returns-2 : tie.Need-returns-2
-returns-2 c page owner rs o s = no_place c.before.some-offset.result (c.before.some-offset.ensures (format_of page c.before.before.before.before.args.kind owner) c.before.before.before.before.args.n) c.if2.false
+returns-2 : tie.Need-returns-then-l-i
+returns-2 c page owner rs o s = no_place c.some_offset.result (c.some_offset.ensures (format_of page c.args.kind owner) c.args.n) c.if-some_offset.false
 
-shared-slice-read-if3 : tie.Need-shared-slice-read-if3
+shared-slice-read-if3 : tie.Need-bounds-l-i
 shared-slice-read-if3 c = search rules
 
-cast-if3 : tie.Need-overflow-cast-if3
-cast-if3 c = omega (arith, c.shared-slice-known2.given c.before.before.before.args.i)
+cast-if3 : tie.Need-overflow_cast-l
+cast-if3 c = omega (arith, c.shared_slice_known-2-1.given c.args.i)
 
-cast-if3-2 : tie.Need-overflow-cast-if3-2
+cast-if3-2 : tie.Need-overflow_cast-t-14
 cast-if3-2 c = search rules
 
-add-if3 : tie.Need-overflow-add-if3
+add-if3 : tie.Need-overflow_add-kind
 add-if3 c = search rules
 
-add-fields-begin : tie.Need-overflow-add-fields-begin
+add-fields-begin : tie.Need-overflow_add-i
 add-fields-begin c = search rules
 
-mul-fields-begin : tie.Need-overflow-mul-fields-begin
+mul-fields-begin : tie.Need-overflow_mul-kind
 mul-fields-begin c = search rules
 
-fields-begin-requires : tie.Need-fields-begin-requires
+fields-begin-requires : tie.Need-fields_begin-requires
 fields-begin-requires c κs = search rules
 
-returns-3 : tie.Need-returns-3
+returns-3 : tie.Need-returns-then-not-fields_begin
 returns-3 c page owner rs o s =
-    let f = c.before.fields-begin in
-    commit-bad c.before.before.before.before.before.before.args.l.now c.before.before.before.before.before.before.args.i f.result c.before.before.before.before.if1.false c.before.before.if3.true (f.ensures (format_of page c.before.before.before.before.before.before.args.kind owner) c.before.before.before.before.before.before.args.n refl) (not-true f.result c.if4.true)
+    let f = c.fields_begin in
+    commit-bad c.args.l.now c.args.i f.result c.if-l-i.false c.if-l-i-2.true (f.ensures (format_of page c.args.kind owner) c.args.n refl) c.if-not-fields_begin.true
 
-mul-if5 : tie.Need-overflow-mul-if5
+mul-if5 : tie.Need-overflow_mul-kind-then-l-i-2
 mul-if5 c = search rules
 
-add-if5 : tie.Need-overflow-add-if5
+add-if5 : tie.Need-overflow_add-kind-then-l-i-2
 add-if5 c = search rules
 
-add-if5-2 : tie.Need-overflow-add-if5-2
+add-if5-2 : tie.Need-overflow_add-i-then-l-i-2
 add-if5-2 c = search rules
 
-returns-4 : tie.Need-returns-4
+returns-4 : tie.Need-returns-then-l-i-3
 returns-4 c page owner rs o s =
-    let f = c.before.before.fields-begin in
-    commit-cut c.before.before.before.before.before.before.before.args.l.now c.before.before.before.before.before.before.before.args.i f.result c.before.before.before.before.before.if1.false c.before.before.before.if3.true (f.ensures (format_of page c.before.before.before.before.before.before.before.args.kind owner) c.before.before.before.before.before.before.before.args.n refl) (not-false f.result c.before.if4.false) c.if5.true o
+    let f = c.fields_begin in
+    commit-cut c.args.l.now c.args.i f.result c.if-l-i.false c.if-l-i-2.true (f.ensures (format_of page c.args.kind owner) c.args.n refl) c.if-not-fields_begin.false c.if-l-i-3.true o
 
-returns-5 : tie.Need-returns-5
+returns-5 : tie.Need-returns-then-l-i-2
 returns-5 c page owner rs o s =
-    let f = c.before.before.fields-begin in
-    commit-whole c.before.before.before.before.before.before.before.args.l.now c.before.before.before.before.before.before.before.args.i f.result c.before.before.before.if3.true (f.ensures (format_of page c.before.before.before.before.before.before.before.args.kind owner) c.before.before.before.before.before.before.before.args.n refl) (not-false f.result c.before.if4.false) c.if5.false
+    let f = c.fields_begin in
+    commit-whole c.args.l.now c.args.i f.result c.if-l-i-2.true (f.ensures (format_of page c.args.kind owner) c.args.n refl) c.if-not-fields_begin.false c.if-l-i-3.false
 
-shared-slice-read-if6 : tie.Need-shared-slice-read-if6
+shared-slice-read-if6 : tie.Need-bounds-l-i-2
 shared-slice-read-if6 c = search rules
 
-returns-6 : tie.Need-returns-6
-returns-6 c page owner rs o s = other-bad c.before.before.before.before.before.before.args.l.now c.before.before.before.before.before.before.args.i c.before.before.before.before.if1.false c.before.before.if3.false c.if6.true
+returns-6 : tie.Need-returns-then-l-i-4
+returns-6 c page owner rs o s = other-bad c.args.l.now c.args.i c.if-l-i.false c.if-l-i-2.false c.if-l-i-4.true
 
-some-offset-requires-2 : tie.Need-some-offset-requires-2
+some-offset-requires-2 : tie.Need-some_offset-requires-2
 some-offset-requires-2 c κs = search rules
 
-returns-7 : tie.Need-returns-7
-returns-7 c page owner rs o s = no_place c.before.some-offset2.result (c.before.some-offset2.ensures (format_of page c.before.before.before.before.before.before.before.before.args.kind owner) c.before.before.before.before.before.before.before.before.args.n) (not-true c.before.some-offset2.result c.if7.true)
+returns-7 : tie.Need-returns-then-not-some_offset
+returns-7 c page owner rs o s = no_place c.some_offset-2.result (c.some_offset-2.ensures (format_of page c.args.kind owner) c.args.n) c.if-not-some_offset.true
 
-add-cell-begins : tie.Need-overflow-add-cell-begins
+add-cell-begins : tie.Need-overflow_add-i-2
 add-cell-begins c = search rules
 
-cell-begins-requires : tie.Need-cell-begins-requires
+cell-begins-requires : tie.Need-cell_begins-requires
 cell-begins-requires c κs = search rules
 
-returns-8 : tie.Need-returns-8
+returns-8 : tie.Need-returns-then-cell_begins
 returns-8 c page owner rs o s =
-    let some = c.before.before.before.some-offset2 in
-    let cell = c.before.cell-begins in
-    record-cut c.before.before.before.before.before.before.before.before.before.before.args.l.now c.before.before.before.before.before.before.before.before.before.before.args.i c.before.before.before.before.before.before.before.before.before.before.args.stamp c.before.before.before.before.before.before.before.before.before.before.args.seen.now some.result cell.result c.before.before.before.before.before.before.before.before.if1.false c.before.before.before.before.if6.false
-    c.before.before.before.before.before.before.before.before.before.before.requires.2 (λ k. (c.before.before.before.before.before.before.before.before.before.shared-slice-known.given k).fits) c.before.before.before.before.before.before.before.before.before.before.requires.3 (some.ensures (format_of page c.before.before.before.before.before.before.before.before.before.before.args.kind owner) c.before.before.before.before.before.before.before.before.before.before.args.n)
-    (not-false some.result c.before.before.if7.false) (readings_fit c.before.before.before.before.before.before.before.before.before.before) (outputs_fit c.before.before.before.before.before.before.before.before.before.before) cell.ensures c.if8.true o s
+    let some = c.some_offset-2 in
+    let cell = c.cell_begins in
+    record-cut c.args.l.now c.args.i c.args.stamp c.args.seen.now some.result cell.result c.if-l-i.false c.if-l-i-4.false
+    c.requires.2 (λ k. (c.shared_slice_known-1.given k).fits) c.requires.3 (some.ensures (format_of page c.args.kind owner) c.args.n)
+    c.if-not-some_offset.false (readings_fit c.before.before.before.before.before.before.before.before.before.before) (outputs_fit c.before.before.before.before.before.before.before.before.before.before) cell.ensures c.if-cell_begins.true o s
 
-returns-9 : tie.Need-returns-9
+returns-9 : tie.Need-returns
 returns-9 c page owner rs o s =
-    let cell = c.before.cell-begins in
-    record-bad c.before.before.before.before.before.before.before.before.before.before.args.l.now c.before.before.before.before.before.before.before.before.before.before.args.i c.before.before.before.before.before.before.before.before.before.before.args.stamp c.before.before.before.before.before.before.before.before.before.before.args.seen.now cell.result c.before.before.before.before.before.before.before.before.if1.false c.before.before.before.before.if6.false c.before.before.before.before.before.before.before.before.before.before.requires.2
-    cell.ensures c.if8.false s
+    let cell = c.cell_begins in
+    record-bad c.args.l.now c.args.i c.args.stamp c.args.seen.now cell.result c.if-l-i.false c.if-l-i-4.false c.requires.2
+    cell.ensures c.if-cell_begins.false s
 
-pub tail-at-spec : {M : Type 1} → statement M
-tail-at-spec =
+pub tail_at_spec : {M : Type 1} → statement M
+tail_at_spec =
     tie.close
     (tie.spec
     some-offset-requires

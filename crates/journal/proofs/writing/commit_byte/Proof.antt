@@ -6,74 +6,74 @@ use Rattle.std.proofs.Common.{rules}
 use Rattle.journal.proofs.writing.commit_byte.Statement.{statement}
 use Rattle.journal.proofs.writing.commit_byte.Tie as tie
 
-cast-result : tie.Need-overflow-cast-result
+cast-result : tie.Need-overflow_cast-result
 cast-result c = search rules
 
-add-result : tie.Need-overflow-add-result
+add-result : tie.Need-overflow_add-result
 add-result c = search rules
 
-returns : tie.Need-returns
-returns c page owner = commit-lead (format_of page c.before.args.kind owner) c.before.args.c c.before.args.k c.if1.true
+returns : tie.Need-returns-then-k-eq0
+returns c page owner = commit-lead (format_of page c.args.kind owner) c.args.c c.args.k c.if-k-eq0.true
 
-cast-byte : tie.Need-overflow-cast-byte
+cast-byte : tie.Need-overflow_cast-c
 cast-byte c = search rules
 
-sub-byte : tie.Need-overflow-sub-byte
+sub-byte : tie.Need-overflow_sub-k
 sub-byte c = search rules
 
 byte-requires : tie.Need-byte-requires
 byte-requires c κs = search rules
 
-returns-2 : tie.Need-returns-2
-returns-2 c page owner = commit-place (format_of page c.before.before.before.before.args.kind owner) c.before.before.before.before.args.c c.before.before.before.before.args.k c.byte.result c.before.before.before.if1.false c.before.before.if2.true c.byte.ensures
+returns-2 : tie.Need-returns-then-k-lt3
+returns-2 c page owner = commit-place (format_of page c.args.kind owner) c.args.c c.args.k c.byte.result c.if-k-eq0.false c.if-k-lt3.true c.byte.ensures
 
-cast-byte-2 : tie.Need-overflow-cast-byte-2
+cast-byte-2 : tie.Need-overflow_cast-c-then-k-lt5
 cast-byte-2 c = search rules
 
-byte-requires-2 : tie.Need-byte-requires-2
+byte-requires-2 : tie.Need-byte-requires-then-k-lt5
 byte-requires-2 c κs = search rules
 
-returns-3 : tie.Need-returns-3
-returns-3 c page owner = commit-exclude (format_of page c.before.before.before.before.before.args.kind owner) c.before.before.before.before.before.args.c c.before.before.before.before.before.args.k c.byte2.result c.before.before.before.if2.false c.before.before.if3.true c.byte2.ensures
+returns-3 : tie.Need-returns-then-k-lt5
+returns-3 c page owner = commit-exclude (format_of page c.args.kind owner) c.args.c c.args.k c.byte-then-k-lt5.result c.if-k-lt3.false c.if-k-lt5.true c.byte-then-k-lt5.ensures
 
-byte-requires-3 : tie.Need-byte-requires-3
+byte-requires-3 : tie.Need-byte-requires-then-k-lt9
 byte-requires-3 c κs = search rules
 
-returns-4 : tie.Need-returns-4
-returns-4 c page owner = commit-readings (format_of page c.before.before.before.before.before.args.kind owner) c.before.before.before.before.before.args.c c.before.before.before.before.before.args.k c.byte3.result c.before.before.if3.false c.before.if4.true c.byte3.ensures
+returns-4 : tie.Need-returns-then-k-lt9
+returns-4 c page owner = commit-readings (format_of page c.args.kind owner) c.args.c c.args.k c.byte-then-k-lt9.result c.if-k-lt5.false c.if-k-lt9.true c.byte-then-k-lt9.ensures
 
-byte-requires-4 : tie.Need-byte-requires-4
+byte-requires-4 : tie.Need-byte-requires-then-k-lt13
 byte-requires-4 c κs = search rules
 
-returns-5 : tie.Need-returns-5
-returns-5 c page owner = commit-outputs (format_of page c.before.before.before.before.before.before.args.kind owner) c.before.before.before.before.before.before.args.c c.before.before.before.before.before.before.args.k c.byte4.result c.before.before.if4.false c.before.if5.true c.byte4.ensures
+returns-5 : tie.Need-returns-then-k-lt13
+returns-5 c page owner = commit-outputs (format_of page c.args.kind owner) c.args.c c.args.k c.byte-then-k-lt13.result c.if-k-lt9.false c.if-k-lt13.true c.byte-then-k-lt13.ensures
 
-mul-if6 : tie.Need-overflow-mul-if6
+mul-if6 : tie.Need-overflow_mul-kind
 mul-if6 c = search rules
 
-add-if6 : tie.Need-overflow-add-if6
+add-if6 : tie.Need-overflow_add-kind
 add-if6 c = search rules
 
-byte-requires-5 : tie.Need-byte-requires-5
+byte-requires-5 : tie.Need-byte-requires-then-k-kind
 byte-requires-5 c κs = search rules
 
-returns-6 : tie.Need-returns-6
-returns-6 c page owner = commit-owner (format_of page c.before.before.before.before.before.before.before.args.kind owner) c.before.before.before.before.before.before.before.args.c c.before.before.before.before.before.before.before.args.k c.byte5.result c.before.before.if5.false c.before.if6.true c.byte5.ensures
+returns-6 : tie.Need-returns-then-k-kind
+returns-6 c page owner = commit-owner (format_of page c.args.kind owner) c.args.c c.args.k c.byte-then-k-kind.result c.if-k-lt13.false c.if-k-kind.true c.byte-then-k-kind.ensures
 
-mul-if7 : tie.Need-overflow-mul-if7
+mul-if7 : tie.Need-overflow_mul-kind-2
 mul-if7 c = search rules
 
-add-if7 : tie.Need-overflow-add-if7
+add-if7 : tie.Need-overflow_add-kind-2
 add-if7 c = search rules
 
-returns-7 : tie.Need-returns-7
-returns-7 c page owner = commit-last (format_of page c.before.before.before.before.before.before.before.args.kind owner) c.before.before.before.before.before.before.before.args.c c.before.before.before.before.before.before.before.args.k c.if7.true
+returns-7 : tie.Need-returns-then-k-kind-2
+returns-7 c page owner = commit-last (format_of page c.args.kind owner) c.args.c c.args.k c.if-k-kind-2.true
 
-returns-8 : tie.Need-returns-8
-returns-8 c page owner = commit-past (format_of page c.before.before.before.before.before.before.before.args.kind owner) c.before.before.before.before.before.before.before.args.c c.before.before.before.before.before.before.before.args.k c.before.if6.false c.if7.false
+returns-8 : tie.Need-returns
+returns-8 c page owner = commit-past (format_of page c.args.kind owner) c.args.c c.args.k c.if-k-kind.false c.if-k-kind-2.false
 
-pub commit-byte-spec : {M : Type 1} → statement M
-commit-byte-spec =
+pub commit_byte_spec : {M : Type 1} → statement M
+commit_byte_spec =
     tie.close
     (tie.spec
     cast-result

@@ -5,16 +5,16 @@ use Rattle.journal.proofs.Written.{no_room, room}
 use Rattle.journal.proofs.writing.fits.Statement.{statement}
 use Rattle.journal.proofs.writing.fits.Tie as tie
 
-returns : tie.Need-returns
-returns c owner values d = no_room _ _ _ c.if1.true
+returns : tie.Need-returns-then-len-at
+returns c owner values d = no_room _ _ _ c.if-len-at.true
 
 size-requires : tie.Need-size-requires
 size-requires c κs = search rules
 
-returns-2 : tie.Need-returns-2
+returns-2 : tie.Need-returns
 returns-2 c owner values d =
-    let s = c.before.before.args in
-    room _ s.at s.len c.before.if1.false ∙ ap (λ (n : ℕ). leb (s.at + n) s.len) (c.size.ensures owner values d)
+    let s = c.args in
+    room _ s.at s.len c.if-len-at.false ∙ ap (λ (n : ℕ). leb (s.at + n) s.len) (c.size.ensures owner values d)
 
-pub fits-spec : {M : Type 1} → statement M
-fits-spec = tie.close (tie.spec returns size-requires returns-2)
+pub fits_spec : {M : Type 1} → statement M
+fits_spec = tie.close (tie.spec returns size-requires returns-2)

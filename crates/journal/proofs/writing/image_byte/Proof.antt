@@ -9,57 +9,57 @@ use Rattle.journal.proofs.writing.image_byte.Tie as tie
 count-requires : tie.Need-count-requires
 count-requires c κs = search rules
 
-cast-records : tie.Need-overflow-cast-records
+cast-records : tie.Need-overflow_cast-records
 cast-records c = search rules
 
-mul-records : tie.Need-overflow-mul-records
+mul-records : tie.Need-overflow_mul-records
 mul-records c = search rules
 
-mul-if1 : tie.Need-overflow-mul-if1
+mul-if1 : tie.Need-overflow_mul-kind
 mul-if1 c = search rules
 
-add-if1 : tie.Need-overflow-add-if1
+add-if1 : tie.Need-overflow_add-kind
 add-if1 c = search rules
 
-add-if1-2 : tie.Need-overflow-add-if1-2
+add-if1-2 : tie.Need-overflow_add-records
 add-if1-2 c = search rules
 
-returns : tie.Need-returns
-returns c page owner = image-past (format_of page c.before.before.args.kind owner) c.before.before.args.s.words c.before.before.args.values.now c.before.before.args.c c.before.before.args.k c.before.count.ensures c.if1.true
+returns : tie.Need-returns-then-records-kind
+returns c page owner = image-past (format_of page c.args.kind owner) c.args.s.words c.args.values.now c.args.c c.args.k c.count.ensures c.if-records-kind.true
 
-commit-byte-requires : tie.Need-commit-byte-requires
+commit-byte-requires : tie.Need-commit_byte-requires
 commit-byte-requires c κs = search rules
 
-returns-2 : tie.Need-returns-2
+returns-2 : tie.Need-returns-then-records-k
 returns-2 c page owner =
-    image-commit (format_of page c.before.before.before.before.args.kind owner) c.before.before.before.before.args.s.words c.before.before.before.before.args.values.now c.before.before.before.before.args.c c.before.before.before.count.result c.before.before.before.before.args.k c.commit-byte.result
-    c.before.before.before.count.ensures c.before.if2.true (omega (arith, c.before.before.if1.false)) (c.commit-byte.ensures page owner)
+    image-commit (format_of page c.args.kind owner) c.args.s.words c.args.values.now c.args.c c.count.result c.args.k c.commit_byte.result
+    c.count.ensures c.if-records-k.true (omega (arith, c.if-records-kind.false)) (c.commit_byte.ensures page owner)
 
-cast-nth : tie.Need-overflow-cast-nth
+cast-nth : tie.Need-overflow_cast-k
 cast-nth c = search rules
 
-nth-requires : tie.Need-nth-requires
+nth-requires : tie.Need-nth-cell-requires
 nth-requires c κs = search rules
 
-cast-record-byte : tie.Need-overflow-cast-record-byte
+cast-record-byte : tie.Need-overflow_cast-cell
 cast-record-byte c = search rules
 
-mul-record-byte : tie.Need-overflow-mul-record-byte
+mul-record-byte : tie.Need-offset_bounds-values-cell
 mul-record-byte c = search rules
 
-element-copy-out-record-byte : tie.Need-element-copy-out-record-byte
+element-copy-out-record-byte : tie.Need-bounds-values-cell
 element-copy-out-record-byte c = search rules
 
-record-byte-requires : tie.Need-record-byte-requires
+record-byte-requires : tie.Need-record_byte-requires
 record-byte-requires c κs = search rules
 
-returns-3 : tie.Need-returns-3
+returns-3 : tie.Need-returns
 returns-3 c page owner =
-    image-record (format_of page c.before.before.before.before.before.before.args.kind owner) c.before.before.before.before.before.before.args.s.words c.before.before.before.before.before.before.args.values.now c.before.before.before.before.before.before.args.c c.before.before.before.before.before.count.result c.before.before.before.before.before.before.args.k c.record-byte.result
-    c.before.before.before.before.before.count.ensures c.before.before.nth.result c.before.before.before.if2.false c.before.before.nth.ensures c.record-byte.ensures
+    image-record (format_of page c.args.kind owner) c.args.s.words c.args.values.now c.args.c c.count.result c.args.k c.record_byte.result
+    c.count.ensures c.nth-cell.result c.if-records-k.false c.nth-cell.ensures c.record_byte.ensures
 
-pub image-byte-spec : {M : Type 1} → statement M
-image-byte-spec =
+pub image_byte_spec : {M : Type 1} → statement M
+image_byte_spec =
     tie.close
     (tie.spec
     count-requires

@@ -9,33 +9,33 @@ use Rattle.journal.proofs.writing.size.Tie as tie
 count-requires : tie.Need-count-requires
 count-requires c κs = search rules
 
-cast-bytes : tie.Need-overflow-cast-bytes
+cast-bytes : tie.Need-overflow_cast-bytes
 cast-bytes c = search rules
 
-mul-bytes : tie.Need-overflow-mul-bytes
+mul-bytes : tie.Need-overflow_mul-bytes
 mul-bytes c = search rules
 
-mul-bytes-2 : tie.Need-overflow-mul-bytes-2
+mul-bytes-2 : tie.Need-overflow_mul-bytes-2
 mul-bytes-2 c = search rules
 
-add-bytes : tie.Need-overflow-add-bytes
+add-bytes : tie.Need-overflow_add-bytes
 add-bytes c = search rules
 
-add-bytes-2 : tie.Need-overflow-add-bytes-2
+add-bytes-2 : tie.Need-overflow_add-bytes-2
 add-bytes-2 c = search rules
 
 fill-requires : tie.Need-fill-requires
 fill-requires c κs = search rules
 
-add-result : tie.Need-overflow-add-result
+add-result : tie.Need-overflow_add-result
 add-result c = search rules
 
 returns : tie.Need-returns
 returns c owner values d =
-    stored-length (format_of c.before.before.args.page c.before.before.args.kind owner) c.before.before.args.s.words values d (ap (λ (n : ℕ). 6 * n + (14 + 4 * c.before.before.args.kind)) c.before.count.ensures) c.fill.ensures.0
+    stored-length (format_of c.args.page c.args.kind owner) c.args.s.words values d (ap (λ (n : ℕ). 6 * n + (14 + 4 * c.args.kind)) c.count.ensures) c.fill.ensures.0
 
-pub size-spec : {M : Type 1} → statement M
-size-spec =
+pub size_spec : {M : Type 1} → statement M
+size_spec =
     tie.close
     (tie.spec
     count-requires
