@@ -1,7 +1,7 @@
 -- The owner: its four bytes are those of the plan's length and of its sum (`owner-bytes`), so that the MARK of an accepted plan's save is the one that Q-8 has (`mark-bytes`); an owner
 -- of 32 bits fits its kind of MARK (`owner_fits`), and an accepted plan's is not `unowned` (`owner-some`), so that its MARKs have it (`owner-kind`).
 -- Assumes nothing.
-use Rattle.std.proofs.Common.{◌≡◌, ℕ, zero, suc, ◌+◌, ◌-◌, ◌*◌, ◌/◌, ◌%◌, ◌^◌, ◌<◌, ◌≤◌, eqb, List, [], ◌∷◌, ◌++◌, length, get_or, drop, sym, refl, ap, ◌∙◌, add-one, arith, drop_of_length-le, ne_eqb, eqb-true}
+use Rattle.std.proofs.Common.{◌≡◌, ℕ, zero, suc, ◌+◌, ◌*◌, ◌/◌, ◌%◌, ◌^◌, ◌<◌, ◌≤◌, eqb, List, [], ◌∷◌, ◌++◌, length, get_or, drop, sym, refl, ap, ◌∙◌, add-one, arith, drop_of_length-le, ne_eqb, eqb-true}
 use Rattle.word.specs.Bytes.{bytes_of}
 use Rattle.program.proofs.Tests.{bool_cases}
 use Rattle.journal.specs.Format.{sum_of, owner_of_plan, kind_of, format_for, fields_image, commit_image}

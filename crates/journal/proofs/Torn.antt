@@ -1,7 +1,7 @@
 -- A torn checkpoint, cut short of its image, is never taken for whole, however many FF bytes follow it (`never-whole`), and a shorter part of one is a part
 -- too (`part-less`). Only unique decoding is used, and that an image ends in 5A.
 -- Assumes nothing.
-use Rattle.std.proofs.Common.{◌≡◌, ℕ, zero, suc, ◌+◌, ◌<◌, ◌≤◌, eqb, ◌⊎◌, List, [], ◌∷◌, ◌++◌, length, get_or, replicate, sym, refl, ap, ◌∙◌, ap₂, ⊎_elim, append_assoc, append-nil, arith, length-append, eqb-true}
+use Rattle.std.proofs.Common.{◌≡◌, ℕ, zero, suc, ◌+◌, ◌<◌, ◌≤◌, eqb, List, [], ◌∷◌, ◌++◌, length, get_or, replicate, sym, refl, ap, ◌∙◌, ap₂, ⊎_elim, append_assoc, append-nil, arith, length-append, eqb-true}
 use mathlib.Core.List.{head-eq_of_cons-eq, tail-eq_of_cons-eq, cons-ne-nil, concat-ne-nil}
 use lib.ListN.{replicate-append-replicate}
 use lib.Seq.{get_or_at}

@@ -1,7 +1,6 @@
 -- `journal::scan` meets its contract: a journal has a length that no chip has, or what `walk` finds in what `content` keeps is found in it.
 -- Assumes nothing.
 use Rattle.std.proofs.Common.{ℕ, ◌+◌, take, sym, ◌∙◌, subst, arith, length-take-le, rules}
-use borrow.Author.Tests.{not-true, not-false}
 use Rattle.journal.specs.Format.{format_of}
 use Rattle.journal.specs.Answer.{facts_in}
 use Rattle.journal.specs.Parts.{WalkIs}

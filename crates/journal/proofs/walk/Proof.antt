@@ -1,7 +1,6 @@
 -- `journal::walk` meets its contract. The invariant: the checkpoints up to `at` are whole and sound, and seen and values are as they leave them (`Walking`).
 -- Assumes nothing.
 use Rattle.std.proofs.Common.{ℕ, ◌+◌, ◌-◌, ◌*◌, length, refl, ap, ◌∙◌, arith, rules}
-use borrow.Author.Tests.{not-true, not-false}
 use Rattle.journal.specs.Format.{format_of}
 use Rattle.journal.specs.Answer.{facts_in}
 use Rattle.journal.proofs.Meeting.{decides-yes, decides-no}

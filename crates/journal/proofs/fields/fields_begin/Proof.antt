@@ -2,7 +2,6 @@
 -- where none does the last byte is past the end.
 -- Assumes nothing.
 use Rattle.std.proofs.Common.{◌+◌, [], ◌∷◌, arith, rules}
-use borrow.Author.Tests.{not-true, not-false}
 use Rattle.journal.specs.Answer.{facts_in}
 use Rattle.journal.proofs.Meeting.{decides-yes, decides-no, past-meets}
 use Rattle.journal.proofs.Fieldwise.{fields-parts, begun-fields}

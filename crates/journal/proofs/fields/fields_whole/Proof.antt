@@ -1,7 +1,6 @@
 -- `journal::fields::fields_whole` meets its contract: a test that fails tells of its field, and where none does the last byte decides.
 -- Assumes nothing.
 use Rattle.std.proofs.Common.{◌≡◌, ℕ, ◌+◌, [], ◌∷◌, drop, arith, rules}
-use borrow.Author.Tests.{not-true, not-false}
 use Rattle.journal.specs.Format.{Format, owner_width}
 use Rattle.journal.specs.Answer.{facts_in}
 use Rattle.journal.specs.Parts.{Meets, Fields}

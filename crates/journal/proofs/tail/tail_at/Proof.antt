@@ -1,7 +1,6 @@
 -- `journal::tail::tail_at` meets its contract: each return is that of the first byte and of the tests behind it.
 -- Assumes nothing.
 use Rattle.std.proofs.Common.{◌^◌, ◌<◌, refl, arith, rules}
-use borrow.Author.Tests.{not-true, not-false}
 use Rattle.journal.specs.Format.{format_of}
 use Rattle.journal.proofs.Tails.{no_place, none-cut, other-bad, commit-bad, commit-cut, commit-whole, record-bad, record-cut}
 use Rattle.journal.proofs.tail.tail_at.Statement.{statement}

@@ -4,7 +4,6 @@ use mathlib.Core.Path.{◌≡◌, sym, ◌∙◌}
 use mathlib.Core.Bool.{true}
 use Prim.Native.Nat.{◌-◌, ◌≤◌}
 use native.Mathlib.Omega.{arith}
-use borrow.Author.Tests.{not-true, not-false}
 use Rattle.program.specs.Starts.{all_first_of}
 use Rattle.program.specs.Places.{placed}
 use Rattle.program.proofs.Noting.{first-none, first_more, first-all, first-bad}

@@ -9,5 +9,5 @@ pub returns : goal.returns
 unfolding read_place
 returns c =
     let e : c.if-entry-gt3.exclude ≡ exclude_here c.args.entry =
-        elim c.if-entry-gt3.branch [ then-entry-gt3 w ↦ omega (arith, w.if-entry-gt3.true, w.exclude-is) | else-entry-gt3 w ↦ omega (arith, w.if-entry-gt3.false, w.exclude-is) ] in
+    elim c.if-entry-gt3.branch [ then-entry-gt3 w ↦ omega (arith, w.if-entry-gt3.true, w.exclude-is) | else-entry-gt3 w ↦ omega (arith, w.if-entry-gt3.false, w.exclude-is) ] in
     rw e
