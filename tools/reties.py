@@ -207,6 +207,9 @@ def turn(path, it, name):
         lemma_args[new] = rest
         return f"{lemma} : tie.Need-{new}{rest}"
 
+    # steps of calls whose names respell.py took for those of definitions
+    for w in ("cells_clear", "chip_is", "in_neither", "marks_clear", "outputs_after", "readings_after", "refused_run"):
+        text = re.sub(rf"(?<=\.){w}_of\b", w, text)
     head, given, tail = spec_parts(text)
     head = re.sub(rf"(?m)^({WORD}) : tie\.Need-({WORD})(.*)$", need, head)
     for l in given.split():
@@ -238,8 +241,6 @@ def turn(path, it, name):
     for m in re.finditer(rf"(?m)^\s*(?:pub |abbrev )*({WORD}) : tie\.({WORD}) →", head):
         if plain(m.group(2)) in pl.index:
             takes[m.group(1)] = pl.index[plain(m.group(2))]
-    head = re.sub(r"\(not-(?:true|false) (?:\([^()]*\)|[^\s()]+) (c[\w.'\-₀₁₂]*\.(?:true|false))\)", r"\1", head)
-    head = re.sub(r"\bnot-(?:true|false) (?:\([^()]*\)|[^\s()]+) (c[\w.'\-₀₁₂]*\.(?:true|false))", r"\1", head)
 
     blocks = re.split(r"(\n\n+)", head)
     for i, block in enumerate(blocks):
@@ -329,9 +330,16 @@ def turn(path, it, name):
         return m.group(0)
 
     head = re.sub(rf"(?<![\w.])tie\.({WORD})", place, head)
-    # a test of `!b` says now what b is
-    head = re.sub(r"\(not-(?:true|false) (?:\([^()]*\)|[^\s()]+) ([\w.'\-₀₁₂]*\.if-not-[\w.\-]*\.(?:true|false))\)", r"\1", head)
-    head = re.sub(r"\bnot-(?:true|false) (?:\([^()]*\)|[^\s()]+) ([\w.'\-₀₁₂]*\.if-not-[\w.\-]*\.(?:true|false))", r"\1", head)
+    # a test of `!b` says now what b is: where the old fact was taken apart, that, and elsewhere the old fact is made of it
+    of_not = r"([\w.'\-₀₁₂]*\.if-not-[\w\-]*\.(?:true|false))"
+    head = re.sub(rf"\(not-(?:true|false) (?:\([^()]*\)|[^\s()]+) {of_not}\)", r"\1!", head)
+    head = re.sub(rf"\bnot-(?:true|false) (?:\([^()]*\)|[^\s()]+) {of_not}", r"\1!", head)
+    wrapped = re.sub(rf"{of_not}(?!!)", r"(ap not \1)", head)
+    if wrapped != head:
+        missing = [w for w in ("ap", "not") if not re.search(rf"(?m)^use .*[{{ ]{w}[,}}]", head)]
+        if missing:
+            wrapped = re.sub(r"(?m)^use ", "use Rattle.std.proofs.Common.{" + ", ".join(missing) + "}\nuse ", wrapped, count=1)
+    head = re.sub(r"(\.if-not-[\w\-]*\.(?:true|false))!", r"\1", wrapped)
     order, extra = [l for l in given.split() if l.startswith(("invariant-", "decreases-"))], []
     for _, new in it["needs"]:
         if new in lemma_goal:

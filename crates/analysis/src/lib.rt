@@ -3,6 +3,8 @@
 // by `Analyses` of specs/Analyse.antt; the paths are defined in specs/Paths.antt. Crates above take
 // what dead cells and regions are good for from proofs/Safety.antt; that the contract leaves
 // one content of each buffer is proofs/Fixed.antt.
+#![tactic(auto)]
+
 mod region;
 
 ghost use Rattle.std.specs.Prelude.{◌≡◌, ◌≤◌, length};

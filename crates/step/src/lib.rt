@@ -2,6 +2,8 @@
 // next page of a save, else the instruction; on a byte chip a page is a byte. The registers go by value, cells,
 // marks and journal are changed in place. Proved: a step of a sound state is `step_of` of specs/Step.antt, and
 // keeps it sound; `sound` is `sound_of` of specs/State.antt.
+#![tactic(auto)]
+
 pub mod sound;
 
 ghost use Rattle.std.specs.Prelude.{◌≡◌, List, ℕ, ◌+◌, ◌<◌, ◌≤◌, ℤ, length, take, drop, replicate, true};

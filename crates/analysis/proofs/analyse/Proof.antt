@@ -11,38 +11,38 @@ use Rattle.analysis.proofs.analyse.Tie as tie
 check-requires : tie.Need-check-requires
 check-requires c κs = search rules
 
-enum-known-number : tie.Need-enum-known-number
+enum-known-number : tie.Need-enum_known-number
 enum-known-number c = search rules
 
-enum-known-cells : tie.Need-enum-known-cells
+enum-known-cells : tie.Need-enum_known-cells
 enum-known-cells c = search rules
 
-returns : tie.Need-returns
-returns c = short-dead _ _ _ (sym c.before.before.cells.given.1 ∙ c.before.before.before.before.check.ensures.is) (omega (arith, c.if1.true))
+returns : tie.Need-returns-then-dead-lt2048
+returns c = short-dead _ _ _ (sym c.in-Program.is ∙ c.check.ensures.is) (omega (arith, c.if-dead-lt2048.true))
 
-returns-2 : tie.Need-returns-2
-returns-2 c = short-sets _ _ _ (sym c.before.before.before.cells.given.1 ∙ c.before.before.before.before.before.check.ensures.is) (omega (arith, c.if2.true))
+returns-2 : tie.Need-returns-then-sets-lt512
+returns-2 c = short-sets _ _ _ (sym c.in-Program.is ∙ c.check.ensures.is) (omega (arith, c.if-sets-lt512.true))
 
 fill-requires : tie.Need-fill-requires
 fill-requires c κs =
-    let h = sym c.before.before.before.before.before.cells.given.1 ∙ c.before.before.before.before.before.before.before.check.ensures.is in
-    (passes _ h, (accepted _ h).cells_are, omega (arith, c.before.before.before.if1.false), omega (arith, c.before.before.if2.false))
+    let h = sym c.in-Program.is ∙ c.check.ensures.is in
+    (passes _ h, (accepted _ h).cells_are, omega (arith, c.if-dead-lt2048.false), omega (arith, c.if-sets-lt512.false))
 
-returns-3 : tie.Need-returns-3
-returns-3 c = refused-by-check _ _ _ (sym c.before.number.given.1 ∙ c.before.before.before.check.ensures.is)
+returns-3 : tie.Need-returns-in-Refused
+returns-3 c = refused-by-check _ _ _ (sym c.in-Refused.is ∙ c.check.ensures.is)
 
-same_length : tie.Need-same-length
+same_length : tie.Need-shape_of-dead
 same_length c = search rules
 
-same-length-2 : tie.Need-same-length-2
+same-length-2 : tie.Need-shape_of-sets
 same-length-2 c = search rules
 
-returns-4 : tie.Need-returns-4
+returns-4 : tie.Need-returns-else-sets-lt512
 returns-4 c =
-    answered _ _ _ _ _ (sym c.before.before.before.before.before.before.before.before.before.before.cells.given.1 ∙ c.before.before.before.before.before.before.before.before.before.before.before.before.check.ensures.is) (omega (arith, c.before.before.before.before.before.before.before.before.if1.false)) (omega (arith, c.before.before.before.before.before.before.before.if2.false)) c.before.before.before.before.fill.ensures
+    answered _ _ _ _ _ (sym c.in-Program.is ∙ c.check.ensures.is) (omega (arith, c.if-dead-lt2048.false)) (omega (arith, c.if-sets-lt512.false)) c.fill.ensures
 
-pub analyse-spec : {M : Type 1} → statement M
-analyse-spec =
+pub analyse_spec : {M : Type 1} → statement M
+analyse_spec =
     tie.close
     (tie.spec
     check-requires

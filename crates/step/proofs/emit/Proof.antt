@@ -8,20 +8,20 @@ use Rattle.step.proofs.emit.Tie as tie
 stop-requires : tie.Need-stop-requires
 stop-requires c κs = search rules
 
-returns : tie.Need-returns
-returns c = emit-full _ c.before.if1.true c.stop.ensures
+returns : tie.Need-returns-then-r-eq-MOST
+returns c = emit-full _ c.if-r-eq-MOST.true c.stop.ensures
 
-add_r : tie.Need-overflow-add-r
+add_r : tie.Need-overflow_add-r
 add_r c = search rules
 
-cast-after : tie.Need-overflow-cast-after
+cast-after : tie.Need-overflow_cast-r
 cast-after c = search rules
 
 after-requires : tie.Need-after-requires
 after-requires c κs = search rules
 
-returns-2 : tie.Need-returns-2
-returns-2 c = emit-gives _ c.before.before.before.if1.false c.after.ensures
+returns-2 : tie.Need-returns
+returns-2 c = emit-gives _ c.if-r-eq-MOST.false c.after.ensures
 
-pub emit-spec : {M : Type 1} → statement M
-emit-spec = tie.close (tie.spec stop-requires returns add_r cast-after after-requires returns-2)
+pub emit_spec : {M : Type 1} → statement M
+emit_spec = tie.close (tie.spec stop-requires returns add_r cast-after after-requires returns-2)

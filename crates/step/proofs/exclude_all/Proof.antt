@@ -7,46 +7,46 @@ use borrow.Author.Rules.{rules}
 use Rattle.step.proofs.exclude_all.Statement.{statement}
 use Rattle.step.proofs.exclude_all.Tie as tie
 
-cast-at : tie.Need-overflow-cast-at
+cast-at : tie.Need-overflow_cast-at
 cast-at c = search rules
 
-place-at-requires : tie.Need-place-at-requires
+place-at-requires : tie.Need-place_at-number-requires
 place-at-requires c κs = search rules
 
-cast-number : tie.Need-overflow-cast-number
+cast-number : tie.Need-overflow_cast-number
 cast-number c = search rules
 
-sub-exclude : tie.Need-overflow-sub-exclude
+sub-exclude : tie.Need-overflow_sub-number
 sub-exclude c =
-    let s = c.before.before.before.before.before.before in
-    omega (arith, exclude-number s.requires.0 _ s.requires.1 c.before.before.place_at.ensures)
+    let s = c in
+    omega (arith, exclude-number s.requires.0 _ s.requires.1 c.place_at-number.ensures)
 
-mul-exclude : tie.Need-overflow-mul-exclude
+mul-exclude : tie.Need-overflow_mul-number
 mul-exclude c = search rules
 
-cell-count-requires : tie.Need-cell-count-requires
+cell-count-requires : tie.Need-cell_count-requires
 cell-count-requires c κs = search rules
 
 exclude-requires : tie.Need-exclude-requires
 exclude-requires c κs =
-    let at_place = c.before.before.before in
-    let s = at_place.before.before.before.before in
-    (c.cell-count.ensures.1, omega (arith, exclude-number s.requires.0 _ s.requires.1 at_place.place_at.ensures, exclude-words s.requires.0 _ s.requires.1))
+    let at_place = c in
+    let s = at_place in
+    (c.cell_count.ensures.1, omega (arith, exclude-number s.requires.0 _ s.requires.1 at_place.place_at-number.ensures, exclude-words s.requires.0 _ s.requires.1))
 
 after-requires : tie.Need-after-requires
 after-requires c κs =
-    let s = c.before.before.before.before.before.before.before.before in
+    let s = c in
     omega (arith, start-below _ _ (exclude-start _ _ s.requires.1).0, (ready-accepted s.requires.0).most)
 
 returns : tie.Need-returns
 returns c v xs l =
-    let at_place = c.before.before.before.before.before in
-    let s = at_place.before.before.before.before in
-    excludes _ _ v _ xs _ l (exclude-start _ _ s.requires.1).1 s.requires.2 c.after.ensures c.before.before.cell-count.ensures.0
-    (exclude-number s.requires.0 _ s.requires.1 at_place.place_at.ensures) c.before.exclude.ensures
+    let at_place = c in
+    let s = at_place in
+    excludes _ _ v _ xs _ l (exclude-start _ _ s.requires.1).1 s.requires.2 c.after.ensures c.cell_count.ensures.0
+    (exclude-number s.requires.0 _ s.requires.1 at_place.place_at-number.ensures) c.exclude.ensures
 
-pub exclude-all-spec : {M : Type 1} → statement M
-exclude-all-spec =
+pub exclude_all_spec : {M : Type 1} → statement M
+exclude_all_spec =
     tie.close
     (tie.spec
     cast-at

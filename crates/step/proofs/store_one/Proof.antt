@@ -6,89 +6,89 @@ use borrow.Author.Rules.{rules}
 use Rattle.step.proofs.store_one.Statement.{statement}
 use Rattle.step.proofs.store_one.Tie as tie
 
-cell-count-requires : tie.Need-cell-count-requires
+cell-count-requires : tie.Need-cell_count-n-requires
 cell-count-requires c κs = search rules
 
-stored-cells-requires : tie.Need-stored-cells-requires
+stored-cells-requires : tie.Need-stored_cells-s-requires
 stored-cells-requires c κs = search rules
 
-cast-after : tie.Need-overflow-cast-after
+cast-after : tie.Need-overflow_cast-r
 cast-after c = search rules
 
-after-requires : tie.Need-after-requires
-after-requires c κs = let f = storing _ _ c.before.before.before.before.before.before.requires.0 c.before.before.before.before.before.before.requires.1 c.before.before.before.before.before.before.requires.2 in omega (arith, f.place)
+after-requires : tie.Need-after-next-requires
+after-requires c κs = let f = storing _ _ c.requires.0 c.requires.1 c.requires.2 in omega (arith, f.place)
 
-cast-t15 : tie.Need-overflow-cast-t15
-cast-t15 c = let f = storing _ _ c.before.before.before.before.before.before.before.requires.0 c.before.before.before.before.before.before.before.requires.1 c.before.before.before.before.before.before.before.requires.2 in place_fits f.place c.after.ensures
+cast-t15 : tie.Need-overflow_cast-commit
+cast-t15 c = let f = storing _ _ c.requires.0 c.requires.1 c.requires.2 in place_fits f.place c.after-next.ensures
 
-cast-t16 : tie.Need-overflow-cast-t16
-cast-t16 c = let f = storing _ _ c.before.before.before.before.before.before.before.before.requires.0 c.before.before.before.before.before.before.before.before.requires.1 c.before.before.before.before.before.before.before.before.requires.2 in omega (arith, f.exclude)
+cast-t16 : tie.Need-overflow_cast-commit-2
+cast-t16 c = let f = storing _ _ c.requires.0 c.requires.1 c.requires.2 in omega (arith, f.exclude)
 
-kind-of-requires : tie.Need-kind-of-requires
+kind-of-requires : tie.Need-kind_of-kind-requires
 kind-of-requires c κs = search rules
 
-cast-from : tie.Need-overflow-cast-from
+cast-from : tie.Need-overflow_cast-from
 cast-from c = search rules
 
-sub-from : tie.Need-overflow-sub-from
+sub-from : tie.Need-overflow_sub-from
 sub-from c = search rules
 
-cast-put-bytes : tie.Need-overflow-cast-put-bytes
+cast-put-bytes : tie.Need-overflow_cast-r-2
 cast-put-bytes c = search rules
 
-put-bytes-requires : tie.Need-put-bytes-requires
+put-bytes-requires : tie.Need-put_bytes-requires
 put-bytes-requires c κs =
-    let a = c.before.before.before.before.before.before.before.before.before.before.before.before.args in
-    let f = storing _ _ c.before.before.before.before.before.before.before.before.before.before.before.before.requires.0 c.before.before.before.before.before.before.before.before.before.before.before.before.requires.1 c.before.before.before.before.before.before.before.before.before.before.before.before.requires.2 in
-    let n = size_small a.p.now a.r a.cells.now a.marks.now a.journal.now c.before.before.before.before.before.before.before.before.before.cell-count.ensures.0 c.before.before.before.before.before.before.before.stored-cells.ensures f.some f.few in
-    (f.inside, f.most, omega (arith, f.stored, n), c.before.before.before.kind-of.ensures.1)
+    let a = c.args in
+    let f = storing _ _ c.requires.0 c.requires.1 c.requires.2 in
+    let n = size_small a.p.now a.r a.cells.now a.marks.now a.journal.now c.cell_count-n.ensures.0 c.stored_cells-s.ensures f.some f.few in
+    (f.inside, f.most, omega (arith, f.stored, n), c.kind_of-kind.ensures.1)
 
-cast-r : tie.Need-overflow-cast-r
-cast-r c = let f = storing _ _ c.before.before.before.before.before.before.before.before.before.before.before.before.before.before.before.requires.0 c.before.before.before.before.before.before.before.before.before.before.before.before.before.before.before.requires.1 c.before.before.before.before.before.before.before.before.before.before.before.before.before.before.before.requires.2 in omega (arith, f.few)
+cast-r : tie.Need-overflow_cast-r-3
+cast-r c = let f = storing _ _ c.requires.0 c.requires.1 c.requires.2 in omega (arith, f.few)
 
-add_r : tie.Need-overflow-add-r
-add_r c = let f = storing _ _ c.before.before.before.before.before.before.before.before.before.before.before.before.before.before.before.before.requires.0 c.before.before.before.before.before.before.before.before.before.before.before.before.before.before.before.before.requires.1 c.before.before.before.before.before.before.before.before.before.before.before.before.before.before.before.before.requires.2 in omega (arith, f.inside, f.most)
+add_r : tie.Need-overflow_add-r
+add_r c = let f = storing _ _ c.requires.0 c.requires.1 c.requires.2 in omega (arith, f.inside, f.most)
 
-add-if1 : tie.Need-overflow-add-if1
+add-if1 : tie.Need-overflow_add-from
 add-if1 c =
-    let a = c.before.before.before.before.before.before.before.before.before.before.before.before.before.before.before.before.args in
-    let f = storing _ _ c.before.before.before.before.before.before.before.before.before.before.before.before.before.before.before.before.requires.0 c.before.before.before.before.before.before.before.before.before.before.before.before.before.before.before.before.requires.1 c.before.before.before.before.before.before.before.before.before.before.before.before.before.before.before.before.requires.2 in
-    omega (arith, f.stored, size_small a.p.now a.r a.cells.now a.marks.now a.journal.now c.before.before.before.before.before.before.before.before.before.before.before.before.before.cell-count.ensures.0 c.before.before.before.before.before.before.before.before.before.before.before.stored-cells.ensures f.some f.few)
+    let a = c.args in
+    let f = storing _ _ c.requires.0 c.requires.1 c.requires.2 in
+    omega (arith, f.stored, size_small a.p.now a.r a.cells.now a.marks.now a.journal.now c.cell_count-n.ensures.0 c.stored_cells-s.ensures f.some f.few)
 
 size-requires : tie.Need-size-requires
-size-requires c κs = let f = storing _ _ c.before.before.before.before.before.before.before.before.before.before.before.before.before.before.before.before.requires.0 c.before.before.before.before.before.before.before.before.before.before.before.before.before.before.before.before.requires.1 c.before.before.before.before.before.before.before.before.before.before.before.before.before.before.before.before.requires.2 in (f.some, f.few, c.before.before.before.before.before.before.before.kind-of.ensures.1)
+size-requires c κs = let f = storing _ _ c.requires.0 c.requires.1 c.requires.2 in (f.some, f.few, c.kind_of-kind.ensures.1)
 
 keep-requires : tie.Need-keep-requires
-keep-requires c κs = c.before.before.before.before.before.before.before.before.before.before.before.before.before.before.before.before.cell-count.ensures.1
+keep-requires c κs = c.cell_count-n.ensures.1
 
-same_length : tie.Need-same-length
+same_length : tie.Need-shape_of-journal-then-from-page
 same_length c = search rules
 
-returns : tie.Need-returns
+returns : tie.Need-returns-then-from-page
 returns c =
-    let f = storing _ _ c.before.before.before.before.before.before.before.before.before.before.before.before.before.before.before.before.before.before.before.before.requires.0 c.before.before.before.before.before.before.before.before.before.before.before.before.before.before.before.before.before.before.before.before.requires.1 c.before.before.before.before.before.before.before.before.before.before.before.before.before.before.before.before.before.before.before.before.requires.2 in
-    stores-last _ _ _ _ _ c.before.before.before.before.before.before.before.before.before.before.before.before.before.before.before.before.before.cell-count.ensures.0 c.before.before.before.before.before.before.before.before.before.before.before.before.before.before.before.stored-cells.ensures c.before.before.before.before.before.before.before.before.before.before.before.kind-of.ensures.0 f.at c.before.before.before.before.before.before.before.before.before.before.before.before.before.after.ensures
-    c.before.before.before.before.before.before.before.put-bytes.ensures c.before.before.before.size.ensures f.stored c.before.before.if1.true c.keep.ensures
+    let f = storing _ _ c.requires.0 c.requires.1 c.requires.2 in
+    stores-last _ _ _ _ _ c.cell_count-n.ensures.0 c.stored_cells-s.ensures c.kind_of-kind.ensures.0 f.at c.after-next.ensures
+    c.put_bytes.ensures c.size.ensures f.stored c.if-from-page.true c.keep.ensures
 
-cast-r-2 : tie.Need-overflow-cast-r-2
-cast-r-2 c = let f = storing _ _ c.before.before.before.before.before.before.before.before.before.before.before.before.before.before.before.before.before.before.requires.0 c.before.before.before.before.before.before.before.before.before.before.before.before.before.before.before.before.before.before.requires.1 c.before.before.before.before.before.before.before.before.before.before.before.before.before.before.before.before.before.before.requires.2 in omega (arith, f.few)
+cast-r-2 : tie.Need-overflow_cast-r-4
+cast-r-2 c = let f = storing _ _ c.requires.0 c.requires.1 c.requires.2 in omega (arith, f.few)
 
-add-r-2 : tie.Need-overflow-add-r-2
+add-r-2 : tie.Need-overflow_add-r-2
 add-r-2 c =
-    let f = storing _ _ c.before.before.before.before.before.before.before.before.before.before.before.before.before.before.before.before.before.before.before.requires.0 c.before.before.before.before.before.before.before.before.before.before.before.before.before.before.before.before.before.before.before.requires.1 c.before.before.before.before.before.before.before.before.before.before.before.before.before.before.before.before.before.before.before.requires.2 in
-    saving-fits _ _ _ _ _ c.before.before.before.before.before.before.before.before.before.before.before.before.before.before.before.before.cell-count.ensures.0 c.before.before.before.before.before.before.before.before.before.before.before.before.before.before.stored-cells.ensures f
+    let f = storing _ _ c.requires.0 c.requires.1 c.requires.2 in
+    saving-fits _ _ _ _ _ c.cell_count-n.ensures.0 c.stored_cells-s.ensures f
 
-same-length-2 : tie.Need-same-length-2
+same-length-2 : tie.Need-shape_of-journal
 same-length-2 c = search rules
 
-returns-2 : tie.Need-returns-2
+returns-2 : tie.Need-returns
 returns-2 c =
-    let f = storing _ _ c.before.before.before.before.before.before.before.before.before.before.before.before.before.before.before.before.before.before.before.requires.0 c.before.before.before.before.before.before.before.before.before.before.before.before.before.before.before.before.before.before.before.requires.1 c.before.before.before.before.before.before.before.before.before.before.before.before.before.before.before.before.before.before.before.requires.2 in
-    stores-next _ _ _ _ _ c.before.before.before.before.before.before.before.before.before.before.before.before.before.before.before.before.cell-count.ensures.0 c.before.before.before.before.before.before.before.before.before.before.before.before.before.before.stored-cells.ensures c.before.before.before.before.before.before.before.before.before.before.kind-of.ensures.0 f.at c.before.before.before.before.before.before.before.before.before.before.before.before.after.ensures
-    c.before.before.before.before.before.before.put-bytes.ensures c.before.before.size.ensures f.stored c.before.if1.false
+    let f = storing _ _ c.requires.0 c.requires.1 c.requires.2 in
+    stores-next _ _ _ _ _ c.cell_count-n.ensures.0 c.stored_cells-s.ensures c.kind_of-kind.ensures.0 f.at c.after-next.ensures
+    c.put_bytes.ensures c.size.ensures f.stored c.if-from-page.false
 
-pub store-one-spec : {M : Type 1} → statement M
-store-one-spec =
+pub store_one_spec : {M : Type 1} → statement M
+store_one_spec =
     tie.close
     (tie.spec
     cell-count-requires

@@ -10,53 +10,53 @@ use borrow.Author.Rules.{rules}
 use Rattle.analysis.proofs.region.exclude_set.Statement.{statement}
 use Rattle.analysis.proofs.region.exclude_set.Tie as tie
 
-slice-aggregate-search : tie.Need-slice-aggregate-search
+slice-aggregate-search : tie.Need-slice_bounds-search-end
 slice-aggregate-search c = search rules
 
-slice-aggregate-search-2 : tie.Need-slice-aggregate-search-2
+slice-aggregate-search-2 : tie.Need-slice_bounds-search-end-2
 slice-aggregate-search-2 c = search rules
 
-search-requires : tie.Need-search-requires
+search-requires : tie.Need-search-count-requires
 search-requires c κs =
-    let s = c.before.before.before.before.before.before.before.before.before in
+    let s = c in
     (s.requires.0, s.requires.3, s.requires.4, length-replicate {A = ℕ} 512 0, length-replicate 512 false, λ k. uniform 512 k false)
 
-slice-aggregate-de-of : tie.Need-slice-aggregate-de-of
+slice-aggregate-de-of : tie.Need-slice_bounds-de_of-end
 slice-aggregate-de-of c = search rules
 
-de-of-requires : tie.Need-de-of-requires
+de-of-requires : tie.Need-de_of-de-requires
 de-of-requires c κs = search rules
 
-slice-aggregate-ro-of : tie.Need-slice-aggregate-ro-of
+slice-aggregate-ro-of : tie.Need-slice_bounds-ro_of-end
 slice-aggregate-ro-of c = search rules
 
-ro-of-requires : tie.Need-ro-of-requires
+ro-of-requires : tie.Need-ro_of-ro-requires
 ro-of-requires c κs = search rules
 
 store-requires : tie.Need-store-requires
 store-requires c κs = search rules
 
-add-store : tie.Need-overflow-add-store
-add-store c = let s = c.before.before.before.before.before.before.before.before.before.before.before.before.before.before.before.before.before.before.before.before.before in search rules
+add-store : tie.Need-overflow_add-to
+add-store c = let s = c in search rules
 
 store-requires-2 : tie.Need-store-requires-2
-store-requires-2 c κs = let s = c.before.before.before.before.before.before.before.before.before.before.before.before.before.before.before.before.before.before.before.before.before in omega (arith, s.requires.5, c.before.before.before.store.auto.0)
+store-requires-2 c κs = let s = c in omega (arith, s.requires.5, c.store.auto.ws)
 
-same_length : tie.Need-same-length
+same_length : tie.Need-shape_of-sets
 same_length c = search rules
 
 returns : tie.Need-returns
 returns c =
-    let s = c.before.before.before.before.before.before.before.before.before.before.before.before.before.before.before.before.before.before.before.before.before.before.before.before in
-    let f = c.before.before.before.before.before.before.before.before.before.before.before.before.before.before.search in
-    let d = c.before.before.before.before.before.before.before.before.before.before.de-of in
-    let r = c.before.before.before.before.before.before.before.before.ro-of in
-    let one = c.before.before.before.before.before.before.store in
-    placed _ s.args.at.now _ _ _ _ _ (omega (arith, c.before.before.before.before.before.before.before.before.before.before.before.before.before.before.before.before.before.before.before.before.before.before.before.shared-slice-known.given 0)) f.ensures s.requires.0.ways.at_is s.requires.1
-    _ _ _ _ _ _ s.requires.5 one.auto.0 d.ensures r.ensures one.ensures c.before.before.store2.ensures
+    let s = c in
+    let f = c.search-count in
+    let d = c.de_of-de in
+    let r = c.ro_of-ro in
+    let one = c.store in
+    placed _ s.args.at.now _ _ _ _ _ (omega (arith, c.shared_slice_known-1.given 0)) f.ensures s.requires.0.ways.at_is s.requires.1
+    _ _ _ _ _ _ s.requires.5 one.auto.ws d.ensures r.ensures one.ensures c.store-2.ensures
 
-pub exclude-set-spec : {M : Type 1} → statement M
-exclude-set-spec =
+pub exclude_set_spec : {M : Type 1} → statement M
+exclude_set_spec =
     tie.close
     (tie.spec
     slice-aggregate-search

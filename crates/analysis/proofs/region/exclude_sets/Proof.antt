@@ -13,75 +13,75 @@ use Rattle.analysis.proofs.Placing.{Placing, placing-first, placing-room, placin
 use Rattle.analysis.proofs.region.exclude_sets.Statement.{statement}
 use Rattle.analysis.proofs.region.exclude_sets.Tie as tie
 
-abbrev invariant-loop : tie.invariant-loop
+abbrev invariant-loop : tie.invariant-loop-i
 invariant-loop p cells n at left right writes dead sets₀ to₀ i₀ sets to i = Placing p sets₀ sets to i
 
-abbrev decreases-loop : tie.decreases-loop
+abbrev decreases-loop : tie.decreases-loop-i
 decreases-loop p cells n at left right writes dead sets₀ to₀ i₀ sets to i = n - i
 
-loop-holds : tie.Need-loop-init invariant-loop decreases-loop
+loop-holds : tie.Need-loop-i-init invariant-loop decreases-loop
 loop-holds c = placing-first _ _
 
 -- i is an instruction
-node : (c : tie.In-loop invariant-loop decreases-loop) → c.before.loop.i < count_of c.before.before.before.before.before.before.before.before.before.args.p.now
-node c = omega (arith, c.loop-test.true, c.before.before.before.before.before.before.before.before.before.requires.3)
+node : (c : tie.In-loop-i invariant-loop decreases-loop) → c.loop-i.i < count_of c.args.p.now
+node c = omega (arith, c.loop-i-test.true, c.requires.3)
 
-add-i : tie.Need-overflow-add-i invariant-loop decreases-loop
-add-i c = omega (arith, node-small c.before.before.before.before.before.before.before.before.before.requires.0 _ (node c))
+add-i : tie.Need-overflow_add-i invariant-loop decreases-loop
+add-i c = omega (arith, node-small c.requires.0 _ (node c))
 
-mul-if1 : tie.Need-overflow-mul-if1 invariant-loop decreases-loop
-mul-if1 c = omega (arith, node-small c.before.before.before.before.before.before.before.before.before.requires.0 _ (node c))
+mul-if1 : tie.Need-offset_bounds-at-k invariant-loop decreases-loop
+mul-if1 c = omega (arith, node-small c.requires.0 _ (node c))
 
-shared-slice-read-if1 : tie.Need-shared-slice-read-if1 invariant-loop decreases-loop
-shared-slice-read-if1 c = omega (arith, node-small c.before.before.before.before.before.before.before.before.before.before.requires.0 _ (node c.before), c.before.before.before.before.before.before.before.before.before.before.requires.0.long_at)
+shared-slice-read-if1 : tie.Need-bounds-at-k invariant-loop decreases-loop
+shared-slice-read-if1 c = omega (arith, node-small c.requires.0 _ (node c.before), c.requires.0.long_at)
 
-cast-if1 : tie.Need-overflow-cast-if1 invariant-loop decreases-loop
-cast-if1 c = omega (arith, c.shared-slice-known7.given c.before.before.loop.i)
+cast-if1 : tie.Need-overflow_cast-at invariant-loop decreases-loop
+cast-if1 c = omega (arith, c.shared_slice_known-in-loop-i-1.given c.loop-i.i)
 
-shared-slice-read-if1-2 : tie.Need-shared-slice-read-if1-2 invariant-loop decreases-loop
-shared-slice-read-if1-2 c = node-inside c.before.before.before.before.before.before.before.before.before.before.before.requires.0 _ (node c.before.before)
+shared-slice-read-if1-2 : tie.Need-bounds-p-at invariant-loop decreases-loop
+shared-slice-read-if1-2 c = node-inside c.requires.0 _ (node c.before.before)
 
 -- an EXCLUDE stands there
-marked : (c : tie.After-exclude-set-arg invariant-loop decreases-loop) → let p = c.before.before.before.before.before.before.before.before.before.before.before.before.before.args.p.now in byte p (start_of p c.before.before.before.before.before.loop.i) ≡ 0x0D
-marked c = rw (← (node-start c.before.before.before.before.before.before.before.before.before.before.before.before.before.requires.0 _ (node c.before.before.before.before))) c.before.if1.true
+marked : (c : tie.After-exclude_set-arg-1 invariant-loop decreases-loop) → let p = c.args.p.now in byte p (start_of p c.loop-i.i) ≡ 0x0D
+marked c = rw (← (node-start c.requires.0 _ (node c.before.before.before.before))) c.if-p-at-eq-EXCLUDE.true
 
-exclude-set-requires : tie.Need-exclude-set-requires invariant-loop decreases-loop
+exclude-set-requires : tie.Need-exclude_set-requires invariant-loop decreases-loop
 exclude-set-requires c κs =
-    let s = c.before.before.before.before.before.before.before.before.before.before.before.before.before in
-    let room = placing-room _ _ (accepted _ s.requires.0.passed.is) s.requires.4 c.before.before.before.before.before.loop.invariant (node c.before.before.before.before) (marked c) in
+    let s = c in
+    let room = placing-room _ _ (accepted _ s.requires.0.passed.is) s.requires.4 c.loop-i.invariant (node c.before.before.before.before) (marked c) in
     (s.requires.0, s.requires.1, s.requires.2, node c.before.before.before.before, marked c, room)
 
-add-to : tie.Need-overflow-add-to invariant-loop decreases-loop
+add-to : tie.Need-overflow_add-to invariant-loop decreases-loop
 add-to c =
-    let s = c.before.before.before.before.before.before.before.before.before.before.before.before.before.before.before.before in
-    let room = placing-room _ _ (accepted _ s.requires.0.passed.is) s.requires.4 c.before.before.before.before.before.before.before.before.loop.invariant (node c.before.before.before.before.before.before.before) (marked c.before.before.before) in
+    let s = c in
+    let room = placing-room _ _ (accepted _ s.requires.0.passed.is) s.requires.4 c.loop-i.invariant (node c.before.before.before.before.before.before.before) (marked c.before.before.before) in
     search rules
 
-loop-less : tie.Need-loop-smaller invariant-loop decreases-loop
-loop-less c = omega (arith, c.before.before.before.before.before.before.before.loop-test.true)
+loop-less : tie.Need-loop-i-smaller-then-p-at-eq-EXCLUDE invariant-loop decreases-loop
+loop-less c = omega (arith, c.loop-i-test.true)
 
-loop-again : tie.Need-loop-preserved invariant-loop decreases-loop
+loop-again : tie.Need-loop-i-preserved-then-p-at-eq-EXCLUDE invariant-loop decreases-loop
 loop-again c =
-    let s = c.before.before.before.before.before.before.before.before.before.before.before.before.before.before.before.before in
-    let e = c.before.before.exclude-set in
-    placing-turn _ _ (accepted _ s.requires.0.passed.is) (omega (arith, c.before.before.before.before.before.before.before.before.before.before.before.before.before.before.before.shared-slice-known.given 0)) c.before.before.before.before.before.before.before.before.loop.invariant (node c.before.before.before.before.before.before.before) (marked c.before.before.before) e.auto.1.1.1.1.1.1.1.1.0 e.ensures.0 e.ensures.1
+    let s = c in
+    let e = c.exclude_set in
+    placing-turn _ _ (accepted _ s.requires.0.passed.is) (omega (arith, c.shared_slice_known-1.given 0)) c.loop-i.invariant (node c.before.before.before.before.before.before.before) (marked c.before.before.before) e.auto.sets e.ensures.0 e.ensures.1
 
-loop-less-2 : tie.Need-loop-smaller-2 invariant-loop decreases-loop
-loop-less-2 c = omega (arith, c.before.before.before.loop-test.true)
+loop-less-2 : tie.Need-loop-i-smaller invariant-loop decreases-loop
+loop-less-2 c = omega (arith, c.loop-i-test.true)
 
-loop-again-2 : tie.Need-loop-preserved-2 invariant-loop decreases-loop
+loop-again-2 : tie.Need-loop-i-preserved invariant-loop decreases-loop
 loop-again-2 c =
-    let s = c.before.before.before.before.before.before.before.before.before.before.before.before in
-    placing-skip _ _ (accepted _ s.requires.0.passed.is) c.before.before.before.before.loop.invariant (node c.before.before.before) (λ b. c.if1.false (rw (node-start s.requires.0 _ (node c.before.before.before)) b))
+    let s = c in
+    placing-skip _ _ (accepted _ s.requires.0.passed.is) c.loop-i.invariant (node c.before.before.before) (λ b. c.if-p-at-eq-EXCLUDE.false (rw (node-start s.requires.0 _ (node c.before.before.before)) b))
 
-same_length : tie.Need-same-length invariant-loop decreases-loop
-same_length c = c.before.loop.invariant.size
+same_length : tie.Need-shape_of-sets invariant-loop decreases-loop
+same_length c = c.loop-i.invariant.size
 
 returns : tie.Need-returns invariant-loop decreases-loop
-returns c = let s = c.before.before.before.before.before.before.before.before.before in placing-done _ _ (accepted _ s.requires.0.passed.is) (omega (arith, c.loop-test.false, s.requires.3)) c.before.loop.invariant
+returns c = let s = c in placing-done _ _ (accepted _ s.requires.0.passed.is) (omega (arith, c.loop-i-test.false, s.requires.3)) c.loop-i.invariant
 
-pub exclude-sets-spec : {M : Type 1} → statement M
-exclude-sets-spec =
+pub exclude_sets_spec : {M : Type 1} → statement M
+exclude_sets_spec =
     tie.close
     (tie.spec
     invariant-loop

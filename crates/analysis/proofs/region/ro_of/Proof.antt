@@ -9,71 +9,71 @@ use Rattle.analysis.proofs.Looping.{listed_small, listed-inside, listed-writes, 
 use Rattle.analysis.proofs.region.ro_of.Statement.{statement}
 use Rattle.analysis.proofs.region.ro_of.Tie as tie
 
-abbrev invariant-loop : tie.invariant-loop
+abbrev invariant-loop : tie.invariant-loop-j
 invariant-loop p cells at writes list count ro₀ j₀ ro j = Keeping p at list count ro.words j
 
-abbrev decreases-loop : tie.decreases-loop
+abbrev decreases-loop : tie.decreases-loop-j
 decreases-loop p cells at writes list count ro₀ j₀ ro j = count - j
 
-below-requires : tie.Need-below-requires invariant-loop decreases-loop
+below-requires : tie.Need-below-ro-requires invariant-loop decreases-loop
 below-requires c κs = search rules
 
-loop-holds : tie.Need-loop-init invariant-loop decreases-loop
-loop-holds c = let s = c.before.before.before.before.before in keeping-first _ _ _ _ s.requires.1 c.below.ensures (omega arith)
+loop-holds : tie.Need-loop-j-init invariant-loop decreases-loop
+loop-holds c = let s = c in keeping-first _ _ _ _ s.requires.1 c.below-ro.ensures (omega arith)
 
-mul-k : tie.Need-overflow-mul-k invariant-loop decreases-loop
-mul-k c = let s = c.before.before.before.before.before.before.before in omega (arith, c.loop-test.true, s.requires.0.most)
+mul-k : tie.Need-offset_bounds-list-j invariant-loop decreases-loop
+mul-k c = let s = c in omega (arith, c.loop-j-test.true, s.requires.0.most)
 
-shared-slice-read-k : tie.Need-shared-slice-read-k invariant-loop decreases-loop
-shared-slice-read-k c = let s = c.before.before.before.before.before.before.before.before in omega (arith, c.before.loop-test.true, s.requires.0.most)
+shared-slice-read-k : tie.Need-bounds-list-j invariant-loop decreases-loop
+shared-slice-read-k c = let s = c in omega (arith, c.loop-j-test.true, s.requires.0.most)
 
-cast-k : tie.Need-overflow-cast-k invariant-loop decreases-loop
-cast-k c = omega (arith, c.shared-slice-known5.given c.before.before.loop.j)
+cast-k : tie.Need-overflow_cast-k invariant-loop decreases-loop
+cast-k c = omega (arith, c.shared_slice_known-in-loop-j-1.given c.loop-j.j)
 
-add-j : tie.Need-overflow-add-j invariant-loop decreases-loop
-add-j c = let s = c.before.before.before.before.before.before.before.before in omega (arith, c.before.loop-test.true, s.ranges.count)
+add-j : tie.Need-overflow_add-j invariant-loop decreases-loop
+add-j c = let s = c in omega (arith, c.loop-j-test.true, s.ranges.count)
 
 -- the number of the instruction is small
-small : (c : tie.In-loop invariant-loop decreases-loop) → get_or c.before.before.before.before.before.before.before.args.list.now c.before.loop.j 0 < 512
-small c = listed_small c.before.before.before.before.before.before.before.requires.0 c.loop-test.true
+small : (c : tie.In-loop-j invariant-loop decreases-loop) → get_or c.args.list.now c.loop-j.j 0 < 512
+small c = listed_small c.requires.0 c.loop-j-test.true
 
-mul-written : tie.Need-overflow-mul-written invariant-loop decreases-loop
+mul-written : tie.Need-offset_bounds-at-k invariant-loop decreases-loop
 mul-written c = omega (arith, small c.before)
 
-shared-slice-read-written : tie.Need-shared-slice-read-written invariant-loop decreases-loop
-shared-slice-read-written c = omega (arith, small c.before.before, c.before.before.before.before.before.before.before.before.before.requires.0.long_at)
+shared-slice-read-written : tie.Need-bounds-at-k invariant-loop decreases-loop
+shared-slice-read-written c = omega (arith, small c.before.before, c.requires.0.long_at)
 
-cast-written : tie.Need-overflow-cast-written invariant-loop decreases-loop
+cast-written : tie.Need-overflow_cast-at invariant-loop decreases-loop
 cast-written c =
-    let l = c.before.before.before.loop in
-    let s = c.before.before.before.before.before.before.before.before.before in
-    omega (arith, c.shared-slice-known6.given (get_or s.args.list.now l.j 0))
+    let l = c.loop-j in
+    let s = c in
+    omega (arith, c.shared_slice_known-in-loop-j-2-1.given (get_or s.args.list.now l.j 0))
 
 written-requires : tie.Need-written-requires invariant-loop decreases-loop
 written-requires c κs =
-    let at_test = c.before.before in
-    let s = c.before.before.before.before.before.before.before.before.before in (
-      listed-inside s.requires.0 at_test.loop-test.true,
-      omega (arith, small at_test, s.requires.2),
-      listed-writes s.requires.0 at_test.loop-test.true s.args.writes.now s.requires.3,
+    let at_test = c in
+    let s = c in (
+      listed-inside s.requires.0 at_test.loop-j-test.true,
+      omega (arith, small at_test.before.before, s.requires.2),
+      listed-writes s.requires.0 at_test.loop-j-test.true s.args.writes.now s.requires.3,
     )
 
-difference-requires : tie.Need-difference-requires invariant-loop decreases-loop
+difference-requires : tie.Need-difference-ro-requires invariant-loop decreases-loop
 difference-requires c κs = search rules
 
-loop-less : tie.Need-loop-smaller invariant-loop decreases-loop
-loop-less c = omega (arith, c.before.before.before.before.loop-test.true)
+loop-less : tie.Need-loop-j-smaller invariant-loop decreases-loop
+loop-less c = omega (arith, c.loop-j-test.true)
 
-loop-again : tie.Need-loop-preserved invariant-loop decreases-loop
+loop-again : tie.Need-loop-j-preserved invariant-loop decreases-loop
 loop-again c =
-    let at_test = c.before.before.before.before in
-    keeping-turn _ _ _ _ at_test.before.loop.invariant at_test.loop-test.true c.before.written.ensures c.difference.ensures
+    let at_test = c in
+    keeping-turn _ _ _ _ at_test.loop-j.invariant at_test.loop-j-test.true c.written.ensures c.difference-ro.ensures
 
 returns : tie.Need-returns invariant-loop decreases-loop
-returns c = keeping-done _ _ _ _ c.before.loop.invariant c.loop-test.false
+returns c = keeping-done _ _ _ _ c.loop-j.invariant c.loop-j-test.false
 
-pub ro-of-spec : {M : Type 1} → statement M
-ro-of-spec =
+pub ro_of_spec : {M : Type 1} → statement M
+ro_of_spec =
     tie.close
     (tie.spec
     invariant-loop

@@ -5,31 +5,31 @@ use borrow.Author.Rules.{rules}
 use Rattle.step.proofs.sound.places_sound.Statement.{statement}
 use Rattle.step.proofs.sound.places_sound.Tie as tie
 
-cast-place-at : tie.Need-overflow-cast-place-at
+cast-place-at : tie.Need-overflow_cast-r
 cast-place-at c = search rules
 
-place-at-requires : tie.Need-place-at-requires
+place-at-requires : tie.Need-place_at-requires
 place-at-requires c κs = search rules
 
-returns : tie.Need-returns
-returns c p h = places-none p _ h _ c.before.before.before.before.args.r.exclude c.before.before.place_at.ensures c.if1.true
+returns : tie.Need-returns-then-not-place_at
+returns c p h = places-none p _ h _ c.args.r.exclude c.place_at.ensures c.if-not-place_at.true
 
-returns-2 : tie.Need-returns-2
-returns-2 c p h = places-first p _ h _ _ c.before.before.before.before.place_at.ensures c.before.before.if1.false c.if2.true
+returns-2 : tie.Need-returns-then-r-eq0
+returns-2 c p h = places-first p _ h _ _ c.place_at.ensures c.if-not-place_at.false c.if-r-eq0.true
 
-cast-place-at-2 : tie.Need-overflow-cast-place-at-2
+cast-place-at-2 : tie.Need-overflow_cast-r-2
 cast-place-at-2 c = search rules
 
-place-at-requires-2 : tie.Need-place-at-requires-2
+place-at-requires-2 : tie.Need-place_at-requires-2
 place-at-requires-2 c κs = search rules
 
-returns-3 : tie.Need-returns-3
+returns-3 : tie.Need-returns
 returns-3 c p h =
-    places-other p _ h _ _ c.before.before.before.before.before.before.before.place_at.ensures c.before.before.before.before.before.if1.false
-    c.before.before.before.if2.false c.before.place-at2.ensures
+    places-other p _ h _ _ c.place_at.ensures c.if-not-place_at.false
+    c.if-r-eq0.false c.place_at-2.ensures
 
-pub places-sound-spec : {M : Type 1} → statement M
-places-sound-spec =
+pub places_sound_spec : {M : Type 1} → statement M
+places_sound_spec =
     tie.close
     (tie.spec
     cast-place-at

@@ -9,90 +9,90 @@ use borrow.Author.Tests.{not-true, not-false}
 use Rattle.step.proofs.sound.saving_sound.Statement.{statement}
 use Rattle.step.proofs.sound.saving_sound.Tie as tie
 
-returns : tie.Need-returns
+returns : tie.Need-returns-then-r-eq0
 returns c l e =
-    let a = c.before.before.before.args in
+    let a = c.args in
     let m = machine_of a.r a.cells.now a.marks.now l in
-    saving-none a.p.now m c.if1.true
+    saving-none a.p.now m c.if-r-eq0.true
 
-cast-if2 : tie.Need-overflow-cast-if2
+cast-if2 : tie.Need-overflow_cast-r
 cast-if2 c = search rules
 
-shared-slice-read-if2 : tie.Need-shared-slice-read-if2
+shared-slice-read-if2 : tie.Need-bounds-p-r
 shared-slice-read-if2 c = search rules
 
-returns-2 : tie.Need-returns-2
+returns-2 : tie.Need-returns-then-p-r-ne-CHECKPOINT
 returns-2 c l e =
-    let a = c.before.before.before.before.before.before.args in
+    let a = c.args in
     let m = machine_of a.r a.cells.now a.marks.now l in
-    saving-elsewhere a.p.now m c.before.before.before.if1.false c.if2.true
+    saving-elsewhere a.p.now m c.if-r-eq0.false c.if-p-r-ne-CHECKPOINT.true
 
-returns-3 : tie.Need-returns-3
+returns-3 : tie.Need-returns-then-r-ne0
 returns-3 c l e =
-    let a = c.before.before.before.before.before.before.before.before.args in
+    let a = c.args in
     let m = machine_of a.r a.cells.now a.marks.now l in
-    saving-erasing a.p.now m c.before.before.before.before.before.if1.false c.before.before.if2.false c.if3.true
+    saving-erasing a.p.now m c.if-r-eq0.false c.if-p-r-ne-CHECKPOINT.false c.if-r-ne0.true
 
-shared-slice-read-stored-cells : tie.Need-shared-slice-read-stored-cells
+shared-slice-read-stored-cells : tie.Need-bounds-p-0
 shared-slice-read-stored-cells c = search rules
 
-cast-stored-cells : tie.Need-overflow-cast-stored-cells
-cast-stored-cells c = omega (arith, c.shared-slice-known3.given 0)
+cast-stored-cells : tie.Need-overflow_cast-p
+cast-stored-cells c = omega (arith, c.shared_slice_known-3-1.given 0)
 
-add-stored-cells : tie.Need-overflow-add-stored-cells
-add-stored-cells c = omega (arith, c.shared-slice-known3.given 0)
+add-stored-cells : tie.Need-overflow_add-p
+add-stored-cells c = omega (arith, c.shared_slice_known-3-1.given 0)
 
-stored-cells-requires : tie.Need-stored-cells-requires
+stored-cells-requires : tie.Need-stored_cells-requires
 stored-cells-requires c κs = search rules
 
-kind-of-requires : tie.Need-kind-of-requires
+kind-of-requires : tie.Need-kind_of-requires
 kind-of-requires c κs = search rules
 
-size-requires : tie.Need-size-requires
-size-requires c κs = let h = c.before.before.before.before.before.before.before.before.before.before.before.requires in (h.1, h.2, c.kind-of.ensures.1)
+size-requires : tie.Need-size-bytes-requires
+size-requires c κs = let h = c.requires in (h.1, h.2, c.kind_of.ensures.1)
 
-cast-stored : tie.Need-overflow-cast-stored
+cast-stored : tie.Need-overflow_cast-stored
 cast-stored c = search rules
 
-sub-stored : tie.Need-overflow-sub-stored
+sub-stored : tie.Need-overflow_sub-stored
 sub-stored c = search rules
 
-returns-4 : tie.Need-returns-4
+returns-4 : tie.Need-returns-then-bytes-stored
 returns-4 c l e =
-    let a = c.before.before.before.before.before.before.before.before.before.before.before.before.before.before.args in
+    let a = c.args in
     let m = machine_of a.r a.cells.now a.marks.now l in
-    saving-over a.p.now m c.before.before.before.before.before.before.before.before.before.before.before.if1.false c.before.before.before.before.before.before.before.before.if2.false c.before.before.before.before.before.before.if3.false (size_is a.p.now m c.before.before.before.kind-of.ensures.0 c.before.before.before.before.stored-cells.ensures c.before.before.size.ensures) c.if4.true
+    saving-over a.p.now m c.if-r-eq0.false c.if-p-r-ne-CHECKPOINT.false c.if-r-ne0.false (size_is a.p.now m c.kind_of.ensures.0 c.stored_cells.ensures c.size-bytes.ensures) c.if-bytes-stored.true
 
-is-whole-requires : tie.Need-is-whole-requires
+is-whole-requires : tie.Need-is_whole-requires
 is-whole-requires c κs = search rules
 
-returns-5 : tie.Need-returns-5
+returns-5 : tie.Need-returns-then-not-is_whole
 returns-5 c l e =
-    let a = c.before.before.before.before.before.before.before.before.before.before.before.before.before.before.before.before.args in
+    let a = c.args in
     let m = machine_of a.r a.cells.now a.marks.now l in
-    let w = c.before.is_whole in
-    let size = size_is a.p.now m c.before.before.before.before.before.kind-of.ensures.0 c.before.before.before.before.before.before.stored-cells.ensures c.before.before.before.before.size.ensures in
-    saving-apart a.p.now m c.before.before.before.before.before.before.before.before.before.before.before.before.before.if1.false c.before.before.before.before.before.before.before.before.before.before.if2.false c.before.before.before.before.before.before.before.before.if3.false size c.before.before.if4.false (sym w.ensures ∙ not-true w.result c.if5.true)
+    let w = c.is_whole in
+    let size = size_is a.p.now m c.kind_of.ensures.0 c.stored_cells.ensures c.size-bytes.ensures in
+    saving-apart a.p.now m c.if-r-eq0.false c.if-p-r-ne-CHECKPOINT.false c.if-r-ne0.false size c.if-bytes-stored.false (sym w.ensures ∙ c.if-not-is_whole.true)
 
-cast-result : tie.Need-overflow-cast-result
+cast-result : tie.Need-overflow_cast-result
 cast-result c = search rules
 
-sub-result : tie.Need-overflow-sub-result
+sub-result : tie.Need-overflow_sub-result
 sub-result c = search rules
 
-add-result : tie.Need-overflow-add-result
-add-result c = omega (arith, size-most _ c.before.before.before.before.before.size.ensures c.before.before.before.before.before.before.before.before.before.before.before.before.before.before.before.before.before.requires.1 c.before.before.before.before.before.before.before.before.before.before.before.before.before.before.before.before.before.requires.2 c.before.before.before.before.before.before.kind-of.ensures.1)
+add-result : tie.Need-overflow_add-result
+add-result c = omega (arith, size-most _ c.size-bytes.ensures c.requires.1 c.requires.2 c.kind_of.ensures.1)
 
-returns-6 : tie.Need-returns-6
+returns-6 : tie.Need-returns
 returns-6 c l e =
-    let a = c.before.before.before.before.before.before.before.before.before.before.before.before.before.before.before.before.before.args in
+    let a = c.args in
     let m = machine_of a.r a.cells.now a.marks.now l in
-    let w = c.before.before.is_whole in
-    let size = size_is a.p.now m c.before.before.before.before.before.before.kind-of.ensures.0 c.before.before.before.before.before.before.before.stored-cells.ensures c.before.before.before.before.before.size.ensures in
-    saving-fits a.p.now m c.before.before.before.before.before.before.before.before.before.before.before.before.before.before.if1.false c.before.before.before.before.before.before.before.before.before.before.before.if2.false c.before.before.before.before.before.before.before.before.before.if3.false size c.before.before.before.if4.false (sym w.ensures ∙ not-false w.result c.before.if5.false) e
+    let w = c.is_whole in
+    let size = size_is a.p.now m c.kind_of.ensures.0 c.stored_cells.ensures c.size-bytes.ensures in
+    saving-fits a.p.now m c.if-r-eq0.false c.if-p-r-ne-CHECKPOINT.false c.if-r-ne0.false size c.if-bytes-stored.false (sym w.ensures ∙ c.if-not-is_whole.false) e
 
-pub saving-sound-spec : {M : Type 1} → statement M
-saving-sound-spec =
+pub saving_sound_spec : {M : Type 1} → statement M
+saving_sound_spec =
     tie.close
     (tie.spec
     returns

@@ -5,11 +5,11 @@ use borrow.Author.Tests.{le-leb, lt-leb}
 use Rattle.step.proofs.sound.wrong_mark.Statement.{statement}
 use Rattle.step.proofs.sound.wrong_mark.Tie as tie
 
-returns : tie.Need-returns
-returns c = (rw (lt-leb _ _ c.if1.true), omega arith)
+returns : tie.Need-returns-then-mark-gt3
+returns c = (rw (lt-leb _ _ c.if-mark-gt3.true), omega arith)
 
-returns-2 : tie.Need-returns-2
-returns-2 c = (rw (le-leb _ _ c.if1.false), omega arith)
+returns-2 : tie.Need-returns-else-mark-gt3
+returns-2 c = (rw (le-leb _ _ c.if-mark-gt3.false), omega arith)
 
-pub wrong-mark-spec : {M : Type 1} → statement M
-wrong-mark-spec = tie.close (tie.spec returns returns-2)
+pub wrong_mark_spec : {M : Type 1} → statement M
+wrong_mark_spec = tie.close (tie.spec returns returns-2)
