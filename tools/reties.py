@@ -20,6 +20,22 @@ def plain(name):
     return re.sub("-+", "-", name.replace("_", "-")).lower()
 
 
+class Index(dict):
+    """Places by name; where the check makes fewer places for a call's arguments, the one that is left stands for them."""
+
+    def find(self, name):
+        if dict.__contains__(self, name):
+            return name
+        short = re.sub(r"-arg\d+$", "-arg", name)
+        return short if dict.__contains__(self, short) else None
+
+    def __contains__(self, name):
+        return self.find(name) is not None
+
+    def __getitem__(self, name):
+        return dict.__getitem__(self, self.find(name) or name)
+
+
 class Places:
     """The places of a function: where each stands in the old chain of records and in the new one."""
 
@@ -27,7 +43,7 @@ class Places:
         self.it = it
         self.old = [p[0] for p in it["places"]]
         self.new = it["places_by_name"]
-        self.index = {plain(n): i for i, n in enumerate(self.old)}
+        self.index = Index((plain(n), i) for i, n in enumerate(self.old))
         self.parent = [None if p[1] is None else self.index[plain(p[1])] for p in it["places"]]
         self.step_old = [plain(p[2][0]) for p in it["places"]]
         self.arms = it["arms"]
@@ -39,10 +55,23 @@ class Places:
             self.asked[new] = self.index[plain(place)]
         self.goals = {plain(o): n for o, n in it["needs"]}
         self.loops = {plain(o): n for (o, n), _ in it["loops"]}
+        self.params = it.get("params", {})
         self.by_step = {}
         for i, s in enumerate(self.step_old):
             if s:
                 self.by_step.setdefault(s, set()).add(self.step_new(i))
+
+    def named(self, i, fields):
+        """`auto.1.0` and `new.1.0` of a call, by the name of the parameter."""
+        names = self.params.get(self.it["places"][i][3] or "")
+        if not names or len(fields) < 2 or fields[0] not in ("auto", "new") or fields[1] not in ("0", "1"):
+            return fields
+        k = 0
+        while 1 + k < len(fields) and fields[1 + k] == "1":
+            k += 1
+        if 1 + k >= len(fields) or fields[1 + k] != "0" or k >= len(names):
+            return fields
+        return [fields[0], names[k]] + fields[2 + k :]
 
     def swallows(self, i):
         """How many old places the new record of place i stands for, where it is that of an arm."""
@@ -127,7 +156,9 @@ def walk(pl, kind, fields, said):
         if not rest:
             return fields, ("before", i, n)
         f = rest[0]
-        if f in ("args", "ranges", "fits"):
+        if f == "pre":
+            return ["requires"] + rest[1:], ("step",)
+        if f in ("args", "ranges") or (f == "fits" and "fits" not in pl.by_step):
             if len(rest) == 1:
                 return [f], ("args",)
             return [f, pl.args.get(plain(rest[1]), rest[1])] + rest[2:], ("step",)
@@ -135,15 +166,17 @@ def walk(pl, kind, fields, said):
         while a is not None and pl.step_old[a] != plain(f):
             a = pl.parent[a]
         if a is not None:
-            got = pl.field(i, a, rest[1:])
+            got = pl.field(i, a, pl.named(a, rest[1:]))
             if got is None:
                 said.append("swallowed " + ".".join(fields))
                 return fields, ("step",)
-            return got, ("step",)
+            return got, (("step", a) if len(rest) == 1 else ("step",))
         return rest, ("step",)
     if kind and kind[0] == "args":
         return [pl.args.get(plain(fields[0]), fields[0])] + fields[1:], ("step",)
     if kind and kind[0] == "step":
+        if len(kind) == 2:
+            fields = pl.named(kind[1], fields)
         return fields, ("step",)
     out, done = [], False
     for k, f in enumerate(fields):

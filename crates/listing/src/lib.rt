@@ -1,4 +1,6 @@
 // The text that the program plan-sets writes (document 01, "A small plan"), put into a lent buffer.
+#![tactic(auto)]
+
 mod text;
 
 ghost use Rattle.std.specs.Prelude.{◌≡◌, ◌+◌, ◌*◌, ◌≤◌, ◌<◌, length};

@@ -2,6 +2,8 @@
 // journal holds. `recover_value` takes any program, words, journal, page length, owner and state, and gives the
 // state that the one reading of the journal makes, or a refusal that alters nothing: `RecoverIs` of specs/Recover.antt.
 // What that state is good for is proved in crate `restart`.
+#![tactic(auto)]
+
 ghost use Rattle.std.specs.Prelude.{◌≡◌, true, ◌⊎◌, ◌+◌, ◌≤◌};
 ghost use Rattle.journal.specs.Format.{unowned, format_for};
 ghost use Rattle.journal.specs.Answer.{facts_in};

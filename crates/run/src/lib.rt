@@ -1,6 +1,8 @@
 // A run (document 01: "Run is given a budget of steps and repeats steps"): the refusals, and steps of crate `step` until an
 // exit. Proved, for any program, words, state, journal, readings, outputs' places and budget: answer and buffers are
 // `CallIs` of specs/Run.antt.
+#![tactic(auto)]
+
 mod quiet;
 mod run;
 mod stretch;

@@ -31,22 +31,22 @@ tables-requires c κs = search rules
 array-share-prefix-left : tie.Need-slice_bounds-left-end
 array-share-prefix-left c =
     let t = c.tables-n in
-    omega (arith, t.ensures.0, few-of c.requires.0, t.auto.right)
+    omega (arith, t.ensures.0, few-of c.requires.0, t.auto.left)
 
 slice-aggregate-settle : tie.Need-slice_bounds-settle-end
 slice-aggregate-settle c =
     let t = c.tables-n in
-    sym (length-take-le t.result t.new.right (omega (arith, t.ensures.0, few-of c.requires.0, t.auto.right)))
+    sym (length-take-le t.result t.new.left (omega (arith, t.ensures.0, few-of c.requires.0, t.auto.left)))
 
 array-share-prefix-right : tie.Need-slice_bounds-right-end
 array-share-prefix-right c =
     let t = c.tables-n in
-    omega (arith, t.ensures.0, few-of c.requires.0, t.auto.reads)
+    omega (arith, t.ensures.0, few-of c.requires.0, t.auto.right)
 
 slice-aggregate-settle-2 : tie.Need-slice_bounds-settle-end-2
 slice-aggregate-settle-2 c =
     let t = c.tables-n in
-    sym (length-take-le t.result t.new.reads (omega (arith, t.ensures.0, few-of c.requires.0, t.auto.reads)))
+    sym (length-take-le t.result t.new.right (omega (arith, t.ensures.0, few-of c.requires.0, t.auto.right)))
 
 slice-aggregate-settle-3 : tie.Need-slice_bounds-settle-end-3
 slice-aggregate-settle-3 c = search rules
@@ -59,8 +59,8 @@ settle-requires c κs =
     let t = c.tables-n in
     let s = c in
     let few = few-of s.requires.0 in
-    settle-ready _ _ _ _ t.ensures.1.ways t.ensures.0 (omega (arith, t.auto.right)) (omega (arith, t.auto.reads)) _ _ _ few
-    (omega (arith, t.auto.writes)) (omega (arith, t.auto.writes)) s.requires.2
+    settle-ready _ _ _ _ t.ensures.1.ways t.ensures.0 (omega (arith, t.auto.left)) (omega (arith, t.auto.right)) _ _ _ few
+    (omega (arith, t.auto.reads)) (omega (arith, t.auto.writes)) s.requires.2
 
 slice-aggregate-exclude-sets : tie.Need-slice_bounds-exclude_sets-end
 slice-aggregate-exclude-sets c = search rules
@@ -75,21 +75,21 @@ slice-aggregate-exclude-sets-4 : tie.Need-slice_bounds-exclude_sets-end-4
 slice-aggregate-exclude-sets-4 c = search rules
 
 -- the dead sets are the program's
-deads : (c : tie.After-exclude-sets-arg2) → DeadSets c.before.before.before.before.before.before.before.before.before.before.before.before.before.before.before.before.before.before.before.before.before.before.before.before.before.before.before.before.args.p.now c.before.before.before.before.before.before.before.before.before.before.before.before.before.before.before.before.before.before.before.before.before.before.before.before.before.before.before.before.args.dead.now c.before.before.before.before.before.before.before.before.settle.new.1.1.1.1.1.0
+deads : (c : tie.After-exclude_sets-arg-1) → DeadSets c.args.p.now c.args.dead.now c.settle.new.dead
 deads c =
-    let t = c.before.before.before.before.before.before.before.before.before.before.before.before.before.before.before.before.before.before.before.tables-n in
-    let s = c.before.before.before.before.before.before.before.before.before.before.before.before.before.before.before.before.before.before.before.before.before.before.before.before.before.before.before.before in
-    let e = c.before.before.before.before.before.before.before.before.settle in
+    let t = c.tables-n in
+    let s = c in
+    let e = c.settle in
     let few = few-of s.requires.0 in
-    dead-sets _ _ _ _ t.ensures.1.ways t.ensures.0 (omega (arith, t.auto.1.1.0)) (omega (arith, t.auto.1.1.1.0)) _ _ t.ensures.1
-    (omega (arith, c.before.before.before.before.before.before.before.before.before.before.before.before.before.before.before.before.before.before.before.before.before.before.before.before.before.before.before.shared_slice_known-1.given 0)) s.requires.1 e.auto.1.1.1.1.1.0 e.ensures
+    dead-sets _ _ _ _ t.ensures.1.ways t.ensures.0 (omega (arith, t.auto.left)) (omega (arith, t.auto.right)) _ _ t.ensures.1
+    (omega (arith, c.shared_slice_known-1.given 0)) s.requires.1 e.auto.dead e.ensures
 
 exclude-sets-requires : tie.Need-exclude_sets-requires
 exclude-sets-requires c κs =
     let t = c.tables-n in
     let s = c in
-    let r = sets-ready _ _ _ _ _ _ _ _ s.requires.0 t.ensures.1 (deads c) (omega (arith, t.auto.1.0)) (omega (arith, t.auto.1.1.0)) (omega (arith, t.auto.1.1.1.0))
-    (omega (arith, t.auto.1.1.1.1.1.0)) s.requires.2 in
+    let r = sets-ready _ _ _ _ _ _ _ _ s.requires.0 t.ensures.1 (deads c) (omega (arith, t.auto.at)) (omega (arith, t.auto.left)) (omega (arith, t.auto.right))
+    (omega (arith, t.auto.writes)) s.requires.2 in
     (r.0, r.1, s.requires.1, t.ensures.0, s.requires.3)
 
 same_length : tie.Need-shape_of-dead

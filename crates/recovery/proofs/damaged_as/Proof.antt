@@ -30,32 +30,32 @@ module _ {F : Facts} {chip : List ℕ} {a : Scanned} {n : ℕ} (v : List ℕ) (s
     of_none : end ≤ 0 → n ≡ 12 → Older F chip n
     of_none h k = record { answer = a; values = v; scans = s; number_is = rw (e, le-ltb _ _ h) k }
 
-scan-requires : tie.Need-scan-requires
+scan-requires : tie.Need-scan-contents-requires
 scan-requires c κs = search rules
 
-enum_told : tie.Need-enum-told
+enum_told : tie.Need-enum_told-1
 enum_told c = search rules
 
-enum-told-2 : tie.Need-enum-told-2
+enum-told-2 : tie.Need-enum_told-in-Damaged
 enum-told-2 c = search rules
 
-enum-known-answer : tie.Need-enum-known-answer
+enum-known-answer : tie.Need-enum_known-answer
 enum-known-answer c = search rules
 
-returns : tie.Need-returns
-returns c = of-found _ c.before.before.before.before.scan.ensures.scans c.before.before.answer.given.1 c.if1.true (omega arith)
+returns : tie.Need-returns-then-end-gt0
+returns c = of-found _ c.scan-contents.ensures.scans c.in-Found.is c.if-end-gt0.true (omega arith)
 
-returns-2 : tie.Need-returns-2
-returns-2 c = of_length _ c.before.before.scan.ensures.scans c.enum_told.given.1 (omega arith)
+returns-2 : tie.Need-returns-in-BadLength
+returns-2 c = of_length _ c.scan-contents.ensures.scans c.in-BadLength.is (omega arith)
 
-returns-3 : tie.Need-returns-3
-returns-3 c = of-damaged _ c.before.before.scan.ensures.scans c.enum-told2.given.1 (omega arith)
+returns-3 : tie.Need-returns-in-Damaged
+returns-3 c = of-damaged _ c.scan-contents.ensures.scans c.in-Damaged.is (omega arith)
 
-returns-4 : tie.Need-returns-4
-returns-4 c = of_none _ c.before.before.before.before.scan.ensures.scans c.before.before.answer.given.1 c.if1.false (omega arith)
+returns-4 : tie.Need-returns-else-end-gt0
+returns-4 c = of_none _ c.scan-contents.ensures.scans c.in-Found.is c.if-end-gt0.false (omega arith)
 
-pub damaged-as-spec : {M : Type 1} → statement M
-damaged-as-spec =
+pub damaged_as_spec : {M : Type 1} → statement M
+damaged_as_spec =
     tie.close
     (tie.spec
     scan-requires

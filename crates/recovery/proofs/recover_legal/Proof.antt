@@ -10,92 +10,92 @@ use Rattle.recovery.proofs.recover_legal.Statement.{statement}
 use Rattle.recovery.proofs.recover_legal.Tie as tie
 
 -- the function's beginning, seen from where nothing was refused
-abbrev start : tie.Else1 → tie.Start
+abbrev start : tie.Else-sets-lt512 → tie.Start
 start c = c.before.before.before.before
 
 -- what is known when scan has answered
-answers : (c : tie.After-scan)
+answers : (c : tie.After-scan-contents)
     → let s = (start c.before.before).args in
-    Answered s.page s.owner s.program.now s.sets.now s.table.now s.journal.now c.scan.result.answer c.scan.result.values
+    Answered s.page s.owner s.program.now s.sets.now s.table.now s.journal.now c.scan-contents.result.answer c.scan-contents.result.values
 answers c =
-    let long = c.before.before in
-    let s = start long in
-    let words : 512 ≤ length s.args.sets.now = omega (arith, long.if1.false) in
-    answered s.args.page s.args.owner _ _ _ _ s.pre.0 s.pre.1 words c.before.byte_at.ensures c.scan.ensures.scans
+    let long = c in
+    let s = start long.before.before in
+    let words : 512 ≤ length s.args.sets.now = omega (arith, long.if-sets-lt512.false) in
+    answered s.args.page s.args.owner _ _ _ _ s.requires.0 s.requires.1 words c.byte_at-highest.ensures c.scan-contents.ensures.scans
 
 refused-requires : tie.Need-refused-requires
 refused-requires c κs = search rules
 
-returns : tie.Need-returns
+returns : tie.Need-returns-then-sets-lt512
 returns c =
-    let s = c.before.before.before.before.before in
-    rw c.refused.ensures (refused-words _ _ _ _ _ s.requires.0 (omega (arith, c.before.if1.true)))
+    let s = c in
+    rw c.refused.ensures (refused-words _ _ _ _ _ s.requires.0 (omega (arith, c.if-sets-lt512.true)))
 
-byte-at-requires : tie.Need-byte-at-requires
+byte-at-requires : tie.Need-byte_at-highest-requires
 byte-at-requires c κs = search rules
 
-scan-requires : tie.Need-scan-requires
+scan-requires : tie.Need-scan-contents-requires
 scan-requires c κs = search rules
 
-enum_told : tie.Need-enum-told
+enum_told : tie.Need-enum_told-1
 enum_told c = search rules
 
-refused-requires-2 : tie.Need-refused-requires-2
+refused-requires-2 : tie.Need-refused-requires-in-BadLength
 refused-requires-2 c κs = search rules
 
-enum-told-2 : tie.Need-enum-told-2
+enum-told-2 : tie.Need-enum_told-in-Damaged
 enum-told-2 c = search rules
 
-damaged-as-requires : tie.Need-damaged-as-requires
+damaged-as-requires : tie.Need-damaged_as-requires
 damaged-as-requires c κs = search rules
 
-refused-requires-3 : tie.Need-refused-requires-3
+refused-requires-3 : tie.Need-refused-requires-in-Damaged
 refused-requires-3 c κs = search rules
 
-enum-known-answer : tie.Need-enum-known-answer
+enum-known-answer : tie.Need-enum_known-answer
 enum-known-answer c = search rules
 
-refused-requires-4 : tie.Need-refused-requires-4
+refused-requires-4 : tie.Need-refused-requires-then-not-own
 refused-requires-4 c κs = search rules
 
-returns-2 : tie.Need-returns-2
+returns-2 : tie.Need-returns-then-not-own
 returns-2 c =
-    let found = c.before.before.before in
-    rw c.refused4.ensures
-    (refused-owner (answers found.before.before.before) _ _ _ found.answer.given.1 (not-true _ c.before.if2.true) (omega arith))
+    let found = c in
+    rw c.refused-then-not-own.ensures
+    (refused-owner (answers found.before.before.before.before) _ _ _ found.in-Found.is c.if-not-own.true (omega arith))
 
-regs-of-requires : tie.Need-regs-of-requires
+regs-of-requires : tie.Need-regs_of-regs-requires
 regs-of-requires c κs =
-    let found = c.before.before in
-    found_within (answers found.before.before.before) found.answer.given.1
+    let found = c in
+    found_within (answers found.before.before.before) found.in-Found.is
 
-cast-marks-by : tie.Need-overflow-cast-marks-by
+cast-marks-by : tie.Need-overflow_cast-last
 cast-marks-by c = search rules
 
-marks-by-requires : tie.Need-marks-by-requires
+marks-by-requires : tie.Need-marks_by-marks-requires
 marks-by-requires c κs =
-    let found = c.before.before.before.before in
-    found-exclude (answers found.before.before.before) found.answer.given.1
+    let found = c in
+    found-exclude (answers found.before.before.before.before.before) found.in-Found.is
 
-returns-3 : tie.Need-returns-3
+returns-3 : tie.Need-returns-in-BadLength
 returns-3 c =
-    rw c.refused2.ensures (refused-length (answers c.before.before.before.before) _ _ _ c.before.enum_told.given.1 (omega arith))
+    rw c.refused-in-BadLength.ensures (refused-length (answers c.before.before.before) _ _ _ c.in-BadLength.is (omega arith))
 
-returns-4 : tie.Need-returns-4
+returns-4 : tie.Need-returns-in-Damaged
 returns-4 c =
-    let told = c.before.before in
-    let a = answers told.before.before.before in
-    let highest = told.before.before.before.before.byte_at.ensures in
-    rw c.refused3.ensures (refused-damaged a _ _ _ told.enum-told2.given.1 (older-read _ _ _ _ a.places highest c.before.damaged-as.ensures))
+    let told = c in
+    let a = answers told.before.before.before.before in
+    let highest = told.byte_at-highest.ensures in
+    rw c.refused-in-Damaged.ensures (refused-damaged a _ _ _ told.in-Damaged.is (older-read _ _ _ _ a.places highest c.damaged_as.ensures))
 
-returns-5 : tie.Need-returns-5
+returns-5 : tie.Need-returns-else-not-own
 returns-5 c =
-    let made = c.before.before in
-    let found = made.before.before.before in
-    restored (answers found.before.before.before) _ _ _ found.answer.given.1 (not-false _ made.before.if2.false) made.regs_of_lem.ensures c.marks-by.ensures
+    let made = c in
+    let found = made in
+    restored (answers found.before.before.before.before.before.before) _ _ _ found.in-Found.is made.if-not-own.false made.regs_of-regs.ensures c.marks_by-marks.ensures
 
-pub recover-legal-spec : {M : Type 1} → statement M
-recover-legal-spec =
+pub recover_legal_spec : {M : Type 1} → statement M
+recover_legal_spec =
     tie.close
     (tie.spec
     refused-requires

@@ -7,39 +7,39 @@ use borrow.Author.Rules.{rules}
 use Rattle.run.proofs.run_in_place.Statement.{statement}
 use Rattle.run.proofs.run_in_place.Tie as tie
 
-late-refusal-requires : tie.Need-late-refusal-requires
+late-refusal-requires : tie.Need-late_refusal-number-requires
 late-refusal-requires c κs = search rules
 
-refused-at-requires : tie.Need-refused-at-requires
+refused-at-requires : tie.Need-refused_at-requires
 refused-at-requires c κs = search rules
 
-returns : tie.Need-returns
+returns : tie.Need-returns-then-number-ne0
 returns c =
-    let s = c.before.before.before.before.before.before.before.before in
+    let s = c in
     call-is _ _ _ _ _
-    (rw c.refused-at.ensures (refused-late _ _ _ _ _ _ s.requires.0 (c.before.before.late-refusal.ensures _ refl) c.before.if1.true))
+    (rw c.refused_at.ensures (refused-late _ _ _ _ _ _ s.requires.0 (c.late_refusal-number.ensures _ refl) c.if-number-ne0.true))
 
 run-requires : tie.Need-run-requires
 run-requires c κs =
-    let left = c.before.before.before.before in
-    let s = left.before.before.before.before.before.before.before in
-    ready _ _ _ s.requires.0 s.requires.1 (left.before.late-refusal.ensures _ refl) left.if1.false s.requires.2 s.requires.3
+    let left = c in
+    let s = left in
+    ready _ _ _ s.requires.0 s.requires.1 (left.late_refusal-number.ensures _ refl) left.if-number-ne0.false s.requires.2 s.requires.3
 
-same_length : tie.Need-same-length
+same_length : tie.Need-shape_of-journal
 same_length c = search rules
 
-same-length-2 : tie.Need-same-length-2
+same-length-2 : tie.Need-shape_of-outputs
 same-length-2 c = search rules
 
-returns-2 : tie.Need-returns-2
+returns-2 : tie.Need-returns
 returns-2 c =
-    let ran = c.before.before.before in
-    let left = ran.before.before.before.before.before in
-    let s = left.before.before.before.before.before.before.before in
-    call-is _ _ _ _ _ (accepted-run _ _ _ _ _ _ s.requires.0 (left.before.late-refusal.ensures _ refl) left.if1.false ran.run.ensures)
+    let ran = c in
+    let left = ran in
+    let s = left in
+    call-is _ _ _ _ _ (accepted-run _ _ _ _ _ _ s.requires.0 (left.late_refusal-number.ensures _ refl) left.if-number-ne0.false ran.run.ensures)
 
-pub run-in-place-spec : {M : Type 1} → statement M
-run-in-place-spec =
+pub run_in_place_spec : {M : Type 1} → statement M
+run_in_place_spec =
     tie.close
     (tie.spec
     late-refusal-requires

@@ -8,43 +8,43 @@ use borrow.Author.Rules.{rules}
 use Rattle.run.proofs.run_value.Statement.{statement}
 use Rattle.run.proofs.run_value.Tie as tie
 
-blank-requires : tie.Need-blank-requires
+blank-requires : tie.Need-blank-table-requires
 blank-requires c κs = search rules
 
 examine-requires : tie.Need-examine-requires
-examine-requires c κs = c.before.blank.ensures
+examine-requires c κs = c.blank-table.ensures
 
-enum-known-number : tie.Need-enum-known-number
+enum-known-number : tie.Need-enum_known-number
 enum-known-number c = search rules
 
 refused-requires : tie.Need-refused-requires
 refused-requires c κs = search rules
 
-enum_told : tie.Need-enum-told
+enum_told : tie.Need-enum_told-1
 enum_told c = search rules
 
-run-legal-requires : tie.Need-run-legal-requires
+run-legal-requires : tie.Need-run_legal-requires
 run-legal-requires c κs =
-    let told = c.before.before.before.enum_told.given.1 in
-    let answer = c.before.before.before.before.before.examine.ensures in
+    let told = c.in-Program.is in
+    let answer = c.examine.ensures in
     (legal (sym told ∙ answer.checks.is), answer.places _ _ _ told)
 
-returns : tie.Need-returns
+returns : tie.Need-returns-in-Refused
 returns c =
     call-is _ _ _ _ _
-    (rw c.refused.ensures (refused-early _ _ _ _ _ _ (rw c.before.before.number.given.1 at c.before.before.before.before.examine.ensures.checks)))
+    (rw c.refused.ensures (refused-early _ _ _ _ _ _ (rw c.in-Refused.is at c.examine.ensures.checks)))
 
-same_length : tie.Need-same-length
+same_length : tie.Need-shape_of-journal
 same_length c = search rules
 
-same-length-2 : tie.Need-same-length-2
+same-length-2 : tie.Need-shape_of-outputs
 same-length-2 c = search rules
 
-returns-2 : tie.Need-returns-2
+returns-2 : tie.Need-returns-in-Program
 returns-2 c = search rules
 
-pub run-value-spec : {M : Type 1} → statement M
-run-value-spec =
+pub run_value_spec : {M : Type 1} → statement M
+run_value_spec =
     tie.close
     (tie.spec
     blank-requires

@@ -5,41 +5,41 @@ use borrow.Author.Rules.{rules}
 use Rattle.run.proofs.quiet.give.Statement.{statement}
 use Rattle.run.proofs.quiet.give.Tie as tie
 
-cast-at : tie.Need-overflow-cast-at
+cast-at : tie.Need-overflow_cast-at
 cast-at c = search rules
 
-add-cell : tie.Need-overflow-add-cell
+add-cell : tie.Need-overflow_add-at
 add-cell c = search rules
 
 cell-requires : tie.Need-cell-requires
 cell-requires c κs = search rules
 
-from-bits-requires : tie.Need-from-bits-requires
+from-bits-requires : tie.Need-from_bits-requires
 from-bits-requires c κs = search rules
 
-mul-t10 : tie.Need-overflow-mul-t10
+mul-t10 : tie.Need-offset_bounds-outputs-to
 mul-t10 c = search rules
 
-slice-set-from-outputs : tie.Need-slice-set-from-outputs
+slice-set-from-outputs : tie.Need-bounds-outputs-to
 slice-set-from-outputs c = search rules
 
 after-requires : tie.Need-after-requires
 after-requires c κs = search rules
 
-add-f : tie.Need-overflow-add-f
+add-f : tie.Need-overflow_add-f
 add-f c = search rules
 
-add-f-2 : tie.Need-overflow-add-f-2
+add-f-2 : tie.Need-overflow_add-f-2
 add-f-2 c = search rules
 
-same_length : tie.Need-same-length
+same_length : tie.Need-shape_of-outputs
 same_length c = search rules
 
 returns : tie.Need-returns
 returns c =
-    let s = c.before.before.before.before.before.before.before.args in
-    gave s.f s.outputs.now s.to c.before.before.after.ensures (record { sfits = c.before.before.before.from-bits.type-inv })
-    c.before.before.before.from-bits.ensures c.before.before.before.before.cell.ensures
+    let s = c.args in
+    gave s.f s.outputs.now s.to c.after.ensures (record { sfits = c.from_bits.type_inv })
+    c.from_bits.ensures c.cell.ensures
 
 pub give_spec : {M : Type 1} → statement M
 give_spec =

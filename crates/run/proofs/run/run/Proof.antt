@@ -15,120 +15,120 @@ use Rattle.run.proofs.Running.{running-left, running-due, turn-steps, running-tu
 use Rattle.run.proofs.run.run.Statement.{statement}
 use Rattle.run.proofs.run.run.Tie as tie
 
-abbrev invariant-loop : tie.invariant-loop
+abbrev invariant-loop : tie.invariant-loop-t
 invariant-loop budget readings p table sets cells₀ marks₀ journal₀ outputs₀ b₀ cells marks journal outputs b =
     Running (env_of p sets) readings budget (machine_of b₀.regs cells₀ marks₀ journal₀) outputs₀ b cells marks journal outputs
 
-abbrev decreases-loop : tie.decreases-loop
+abbrev decreases-loop : tie.decreases-loop-t
 decreases-loop budget readings p table sets cells₀ marks₀ journal₀ outputs₀ b₀ cells marks journal outputs b =
     budget - b.steps
 
 -- ---- what is known on the way
 
 -- after the inner loop, and the function's beginning and the loop's, seen from after the save's stretch
-abbrev hurried : tie.After-store-some invariant-loop decreases-loop → tie.After-rush invariant-loop decreases-loop
+abbrev hurried : tie.After-store_some-b invariant-loop decreases-loop → tie.After-rush-b invariant-loop decreases-loop
 hurried c = c.before.before.before.before.before
 
-abbrev start : tie.After-store-some invariant-loop decreases-loop → tie.Start invariant-loop decreases-loop
+abbrev start : tie.After-store_some-b invariant-loop decreases-loop → tie.Start invariant-loop decreases-loop
 start c = (hurried c).before.before.before.before.before.before.before
 
-abbrev turn-start : tie.After-store-some invariant-loop decreases-loop → tie.At-loop invariant-loop decreases-loop
+abbrev turn-start : tie.After-store_some-b invariant-loop decreases-loop → tie.At-loop-t invariant-loop decreases-loop
 turn-start c = (hurried c).before.before.before
 
 abbrev env-at : tie.Start invariant-loop decreases-loop → Env
 env-at s = env_of s.args.p.now s.args.sets.now
 
 -- where the run stands there
-abbrev stood : tie.After-store-some invariant-loop decreases-loop → Call
+abbrev stood : tie.After-store_some-b invariant-loop decreases-loop → Call
 stood c =
     let r = (hurried c).rush.new in
-    standing c.store-some.result r.1.1.1.1.0 c.store-some.new.1.1.1.1.0 c.store-some.new.1.1.1.1.1.0 r.1.1.1.1.1.0
+    standing c.store_some-b.result r.1.1.1.1.0 c.store_some-b.new.1.1.1.1.0 c.store_some-b.new.1.1.1.1.1.0 r.1.1.1.1.1.0
 
-rushed : (c : tie.After-store-some invariant-loop decreases-loop)
+rushed : (c : tie.After-store_some-b invariant-loop decreases-loop)
     → let s = start c in
     let r = (hurried c).rush.new in
     Running (env-at s) s.args.readings.now s.args.budget (machine_of s.args.start s.args.cells.now s.args.marks.now s.args.journal.now)
-    s.args.outputs.now c.store-some.result r.1.1.1.1.0 c.store-some.new.1.1.1.1.0 c.store-some.new.1.1.1.1.1.0 r.1.1.1.1.1.0
-rushed c = running-store (running-rush (turn-start c).loop.invariant (start c).requires.0 (hurried c).rush.ensures) (start c).requires.0 c.store-some.ensures
+    s.args.outputs.now c.store_some-b.result r.1.1.1.1.0 c.store_some-b.new.1.1.1.1.0 c.store_some-b.new.1.1.1.1.1.0 r.1.1.1.1.1.0
+rushed c = running-store (running-rush (turn-start c).loop.invariant (start c).requires.0 (hurried c).rush.ensures) (start c).requires.0 c.store_some-b.ensures
 
 -- the exit found there
-exits : (c : tie.After-exit-before invariant-loop decreases-loop)
-    → let r = c.before.before.before.before in
+exits : (c : tie.After-exit_before invariant-loop decreases-loop)
+    → let r = c in
     let s = (start r).args in
-    exit_of c.exit-before.result
-    ≡ exit_before_of s.p.now (s.budget - r.store-some.result.steps) (length s.readings.now) (length (hurried r).rush.new.1.1.1.1.1.0) (stood r)
-exits c = c.exit-before.ensures _ _ _ _ (rushed c.before.before.before.before).within.written
+    exit_of c.exit_before.result
+    ≡ exit_before_of s.p.now (s.budget - r.store_some-b.result.steps) (length s.readings.now) (length (hurried r).rush.new.1.1.1.1.1.0) (stood r)
+exits c = c.exit_before.ensures _ _ _ _ (rushed c.before.before.before.before).within.written
 
 -- there is none
-goes : (c : tie.After-enum-told invariant-loop decreases-loop)
-    → let r = c.before.before.before.before.before.before in
+goes : (c : tie.In-None invariant-loop decreases-loop)
+    → let r = c in
     let s = (start r).args in
-    none ≡ exit_before_of s.p.now (s.budget - r.store-some.result.steps) (length s.readings.now) (length (hurried r).rush.new.1.1.1.1.1.0) (stood r)
-goes c = ap exit_of (sym c.enum_told.given.1) ∙ exits c.before.before
+    none ≡ exit_before_of s.p.now (s.budget - r.store_some-b.result.steps) (length s.readings.now) (length (hurried r).rush.new.1.1.1.1.1.0) (stood r)
+goes c = ap exit_of (sym c.in-None.is) ∙ exits c.before
 
 -- the step was one of the run
-turned : (c : tie.After-turn invariant-loop decreases-loop)
-    → let r = c.before.before.before.before.before.before.before.before.before.before.before.before in
-    let b = c.turn.result in
-    let q = c.turn.new.1.1.1.1.1 in
+turned : (c : tie.After-turn-b invariant-loop decreases-loop)
+    → let r = c in
+    let b = c.turn-b.result in
+    let q = c.turn-b.new.outputs in
     TurnIs (env-at (start r)) (start r).args.readings.now (stood r) (hurried r).rush.new.1.1.1.1.1.0 b
     (standing b q.0 q.1.0 q.1.1.0 q.1.1.1.0) q.1.1.1.0
 turned c =
-    let r = c.before.before.before.before.before.before.before.before.before.before.before.before in
-    c.turn.ensures (start r).args.readings.now (rest_is _ (start r).args.readings.now) (rushed r).within.taken
+    let r = c in
+    c.turn-b.ensures (start r).args.readings.now (rest_is _ (start r).args.readings.now) (rushed r.before.before.before.before.before.before.before.before.before.before.before).within.taken
 
 -- ---- the needs
 
-loop-holds : tie.Need-loop-init invariant-loop decreases-loop
+loop-holds : tie.Need-loop-t-init invariant-loop decreases-loop
 loop-holds c =
-    let s = c.before.before.before in
+    let s = c in
     running-first (env-at s) s.args.readings.now s.args.budget
     (machine_of s.args.start s.args.cells.now s.args.marks.now s.args.journal.now) s.args.outputs.now s.requires.1
 
-rush-requires : tie.Need-rush-requires invariant-loop decreases-loop
+rush-requires : tie.Need-rush-b-requires invariant-loop decreases-loop
 rush-requires c κs =
-    let r = c.before.before.loop.invariant in
-    (legal-of c.before.before.before.before.before.before.requires.0, sound-start _ _ r.good.sound, r.within)
+    let r = c.loop-t.invariant in
+    (legal-of c.requires.0, sound-start _ _ r.good.sound, r.within)
 
-store-some-requires : tie.Need-store-some-requires invariant-loop decreases-loop
+store-some-requires : tie.Need-store_some-b-requires invariant-loop decreases-loop
 store-some-requires c κs =
-    let r = c.before.before.before.before in
-    let s = r.before.before.before.before.before.before.before in
-    let w = running-rush r.before.before.before.loop.invariant s.requires.0 r.rush.ensures in
+    let r = c in
+    let s = r in
+    let w = running-rush r.loop-t.invariant s.requires.0 r.rush-b.ensures in
     (w.good, ready-small s.requires.0, w.within.steps)
 
-sub-exit-before : tie.Need-overflow-sub-exit-before invariant-loop decreases-loop
+sub-exit-before : tie.Need-overflow_sub-budget invariant-loop decreases-loop
 sub-exit-before c = (rushed c.before.before.before).within.steps
 
-exit-before-requires : tie.Need-exit-before-requires invariant-loop decreases-loop
+exit-before-requires : tie.Need-exit_before-requires invariant-loop decreases-loop
 exit-before-requires c κs =
-    let r = c.before.before.before in
-    (legal-within _ _ (start r).requires.0.accepted (sound-start _ _ (rushed r).well-formed.sound)).0
+    let r = c in
+    (legal-within _ _ (start r).requires.0.accepted (sound-start _ _ (rushed r.before.before.before).well_formed.sound)).0
 
-enum_told : tie.Need-enum-told invariant-loop decreases-loop
-enum_told c = c.match.keys1
+enum_told : tie.Need-enum_told-1 invariant-loop decreases-loop
+enum_told c = c.in-None-1.keys1
 
-mul-turn : tie.Need-overflow-mul-turn invariant-loop decreases-loop
+mul-turn : tie.Need-offset_bounds-readings-t invariant-loop decreases-loop
 mul-turn c =
-    let r = c.before.before.before.before.before.before in
-    record { fits = omega (arith, (rushed r).within.taken, (start r).well-formed) }
+    let r = c in
+    record { fits = omega (arith, (rushed r.before.before.before.before.before).within.taken, (start r).well_formed) }
 
-sub-turn : tie.Need-overflow-sub-turn invariant-loop decreases-loop
-sub-turn c = (rushed c.before.before.before.before.before.before).within.taken
+sub-turn : tie.Need-slice_bounds-turn-count invariant-loop decreases-loop
+sub-turn c = (rushed c.before.before.before.before.before).within.taken
 
-part-turn-start : tie.Need-slice-bounds-turn-start invariant-loop decreases-loop
+part-turn-start : tie.Need-slice_bounds-turn-start invariant-loop decreases-loop
 part-turn-start c = search rules
 
-part-turn-end : tie.Need-slice-bounds-turn-end invariant-loop decreases-loop
+part-turn-end : tie.Need-slice_bounds-turn-end invariant-loop decreases-loop
 part-turn-end c = search rules
 
-turn-requires : tie.Need-turn-requires invariant-loop decreases-loop
+turn-requires : tie.Need-turn-b-requires invariant-loop decreases-loop
 turn-requires c κs =
-    let r = c.before.before.before.before.before.before.before.before.before.before.before in
+    let r = c in
     let s = start r in
-    let w = rushed r in
+    let w = rushed r.before.before.before.before.before.before.before.before.before.before in
     let g = goes c.before.before.before.before.before in
-    let n = rest-length r.store-some.result.taken s.args.readings.now in (
+    let n = rest-length r.store_some-b.result.taken s.args.readings.now in (
       s.pre.0,
       w.good,
       omega (arith, running-left w g, s.fits.budget),
@@ -137,87 +137,87 @@ turn-requires c κs =
       running-due w g _ n,
     )
 
-loop-less : tie.Need-loop-smaller invariant-loop decreases-loop
+loop-less : tie.Need-loop-t-smaller invariant-loop decreases-loop
 loop-less c =
-    let r = c.before.before.before.before.before.before.before.before.before.before.before.before.before.before.before in
-    let w = rushed r in
+    let r = c in
+    let w = rushed r.before.before.before.before.before.before.before.before.before.before.before.before.before.before in
     let g = goes c.before.before.before.before.before.before.before.before.before in
-    omega (arith, running-left w g, turn-steps w g (turned c.before.before.before), (hurried r).rush.ensures.more, r.store-some.ensures.more)
+    omega (arith, running-left w g, turn-steps w g (turned c.before.before.before), (hurried r).rush.ensures.more, r.store_some-b.ensures.more)
 
-loop-again : tie.Need-loop-preserved invariant-loop decreases-loop
+loop-again : tie.Need-loop-t-preserved invariant-loop decreases-loop
 loop-again c =
-    let r = c.before.before.before.before.before.before.before.before.before.before.before.before.before.before.before in
+    let r = c in
     let g = goes c.before.before.before.before.before.before.before.before.before in
-    let q = c.before.before.before in
-    running-turn (rushed r) g (turned q) (start r).requires.0 q.turn.auto.1.1.1.1.1.1.1.0
+    let q = c in
+    running-turn (rushed r.before.before.before.before.before.before.before.before.before.before.before.before.before.before) g (turned q.before.before.before) (start r).requires.0 q.turn-b.auto.1.1.1.1.1.1.1.0
 
-enum-known-k : tie.Need-enum-known-k invariant-loop decreases-loop
-enum-known-k c = c.match.keys2
+enum-known-k : tie.Need-enum_known-k invariant-loop decreases-loop
+enum-known-k c = c.in-Stopped-1.keys2
 
-ended-at-requires : tie.Need-ended-at-requires invariant-loop decreases-loop
+ended-at-requires : tie.Need-ended_at-requires invariant-loop decreases-loop
 ended-at-requires c κs = tt
 
-same_length : tie.Need-same-length invariant-loop decreases-loop
-same_length c = (rushed c.before.before.before.before.before.before.before.before).chip
+same_length : tie.Need-shape_of-journal-in-Stopped invariant-loop decreases-loop
+same_length c = (rushed c.before.before.before.before.before.before).chip
 
-same-length-2 : tie.Need-same-length-2 invariant-loop decreases-loop
-same-length-2 c = (rushed c.before.before.before.before.before.before.before.before).size
+same-length-2 : tie.Need-shape_of-outputs-in-Stopped invariant-loop decreases-loop
+same-length-2 c = (rushed c.before.before.before.before.before.before).size
 
-returns : tie.Need-returns invariant-loop decreases-loop
+returns : tie.Need-returns-in-Stopped invariant-loop decreases-loop
 returns c =
-    let x = c.before.before.before.before in
-    running-ends (rushed x.before.before.before.before) (exits x) c.before.before.k.given.1 refl c.ended_at.ensures
+    let x = c in
+    running-ends (rushed x.before.before.before.before.before.before) (exits x.before.before) c.in-Stopped.is refl c.ended_at.ensures
 
-enum-told-2 : tie.Need-enum-told-2 invariant-loop decreases-loop
-enum-told-2 c = c.match.keys3
+enum-told-2 : tie.Need-enum_told-in-Spent invariant-loop decreases-loop
+enum-told-2 c = c.in-Spent-1.keys3
 
-ended-at-requires-2 : tie.Need-ended-at-requires-2 invariant-loop decreases-loop
+ended-at-requires-2 : tie.Need-ended_at-requires-in-Spent invariant-loop decreases-loop
 ended-at-requires-2 c κs = tt
 
-same-length-3 : tie.Need-same-length-3 invariant-loop decreases-loop
-same-length-3 c = (rushed c.before.before.before.before.before.before.before).chip
+same-length-3 : tie.Need-shape_of-journal-in-Spent invariant-loop decreases-loop
+same-length-3 c = (rushed c.before.before.before.before.before.before).chip
 
-same-length-4 : tie.Need-same-length-4 invariant-loop decreases-loop
-same-length-4 c = (rushed c.before.before.before.before.before.before.before).size
+same-length-4 : tie.Need-shape_of-outputs-in-Spent invariant-loop decreases-loop
+same-length-4 c = (rushed c.before.before.before.before.before.before).size
 
-returns-2 : tie.Need-returns-2 invariant-loop decreases-loop
+returns-2 : tie.Need-returns-in-Spent invariant-loop decreases-loop
 returns-2 c =
-    let x = c.before.before.before in
-    running-ends (rushed x.before.before.before.before) (exits x) c.before.enum-told2.given.1 refl c.ended-at2.ensures
+    let x = c in
+    running-ends (rushed x.before.before.before.before.before.before) (exits x.before.before) c.in-Spent.is refl c.ended_at-in-Spent.ensures
 
-enum-told-3 : tie.Need-enum-told-3 invariant-loop decreases-loop
-enum-told-3 c = c.match.keys4
+enum-told-3 : tie.Need-enum_told-in-NoReading invariant-loop decreases-loop
+enum-told-3 c = c.in-NoReading-1.keys4
 
-ended-at-requires-3 : tie.Need-ended-at-requires-3 invariant-loop decreases-loop
+ended-at-requires-3 : tie.Need-ended_at-requires-in-NoReading invariant-loop decreases-loop
 ended-at-requires-3 c κs = tt
 
-same-length-5 : tie.Need-same-length-5 invariant-loop decreases-loop
-same-length-5 c = (rushed c.before.before.before.before.before.before.before).chip
+same-length-5 : tie.Need-shape_of-journal-in-NoReading invariant-loop decreases-loop
+same-length-5 c = (rushed c.before.before.before.before.before.before).chip
 
-same-length-6 : tie.Need-same-length-6 invariant-loop decreases-loop
-same-length-6 c = (rushed c.before.before.before.before.before.before.before).size
+same-length-6 : tie.Need-shape_of-outputs-in-NoReading invariant-loop decreases-loop
+same-length-6 c = (rushed c.before.before.before.before.before.before).size
 
-returns-3 : tie.Need-returns-3 invariant-loop decreases-loop
+returns-3 : tie.Need-returns-in-NoReading invariant-loop decreases-loop
 returns-3 c =
-    let x = c.before.before.before in
-    running-ends (rushed x.before.before.before.before) (exits x) c.before.enum-told3.given.1 refl c.ended-at3.ensures
+    let x = c in
+    running-ends (rushed x.before.before.before.before.before.before) (exits x.before.before) c.in-NoReading.is refl c.ended_at-in-NoReading.ensures
 
-enum-told-4 : tie.Need-enum-told-4 invariant-loop decreases-loop
-enum-told-4 c = c.match.keys5
+enum-told-4 : tie.Need-enum_told-in-BufferFull invariant-loop decreases-loop
+enum-told-4 c = c.in-BufferFull-1.keys5
 
-ended-at-requires-4 : tie.Need-ended-at-requires-4 invariant-loop decreases-loop
+ended-at-requires-4 : tie.Need-ended_at-requires-in-BufferFull invariant-loop decreases-loop
 ended-at-requires-4 c κs = tt
 
-same-length-7 : tie.Need-same-length-7 invariant-loop decreases-loop
-same-length-7 c = (rushed c.before.before.before.before.before.before.before).chip
+same-length-7 : tie.Need-shape_of-journal-in-BufferFull invariant-loop decreases-loop
+same-length-7 c = (rushed c.before.before.before.before.before.before).chip
 
-same-length-8 : tie.Need-same-length-8 invariant-loop decreases-loop
-same-length-8 c = (rushed c.before.before.before.before.before.before.before).size
+same-length-8 : tie.Need-shape_of-outputs-in-BufferFull invariant-loop decreases-loop
+same-length-8 c = (rushed c.before.before.before.before.before.before).size
 
-returns-4 : tie.Need-returns-4 invariant-loop decreases-loop
+returns-4 : tie.Need-returns-in-BufferFull invariant-loop decreases-loop
 returns-4 c =
-    let x = c.before.before.before in
-    running-ends (rushed x.before.before.before.before) (exits x) c.before.enum-told4.given.1 refl c.ended-at4.ensures
+    let x = c in
+    running-ends (rushed x.before.before.before.before.before.before) (exits x.before.before) c.in-BufferFull.is refl c.ended_at-in-BufferFull.ensures
 
 pub run_spec : {M : Type 1} → statement M
 run_spec =

@@ -7,35 +7,35 @@ use borrow.Author.Rules.{rules}
 use Rattle.run.proofs.stretch.make.Statement.{statement}
 use Rattle.run.proofs.stretch.make.Tie as tie
 
-cell-count-requires : tie.Need-cell-count-requires
+cell-count-requires : tie.Need-cell_count-n-requires
 cell-count-requires c κs = search rules
 
-stored-cells-requires : tie.Need-stored-cells-requires
+stored-cells-requires : tie.Need-stored_cells-s-requires
 stored-cells-requires c κs = search rules
 
-cast-after : tie.Need-overflow-cast-after
+cast-after : tie.Need-overflow_cast-r
 cast-after c = search rules
 
 after-requires : tie.Need-after-requires
 after-requires c κs = search rules
 
-cast-t11 : tie.Need-overflow-cast-t11
-cast-t11 c = place_fits c.before.before.before.before.before.requires.0 c.after.ensures
+cast-t11 : tie.Need-overflow_cast-commit
+cast-t11 c = place_fits c.requires.0 c.after.ensures
 
-cast-t12 : tie.Need-overflow-cast-t12
+cast-t12 : tie.Need-overflow_cast-commit-2
 cast-t12 c = search rules
 
-kind-of-requires : tie.Need-kind-of-requires
+kind-of-requires : tie.Need-kind_of-requires
 kind-of-requires c κs = search rules
 
-image-into-requires : tie.Need-image-into-requires
-image-into-requires c κs = (c.before.before.before.before.before.before.cell-count.ensures.1, stored-none _ c.before.before.before.before.before.before.before.before.args.marks.now c.before.before.before.before.before.stored-cells.ensures, c.before.before.before.before.before.before.before.before.requires.3, c.before.before.before.before.before.before.before.before.requires.4, c.kind-of.ensures.1)
+image-into-requires : tie.Need-image_into-requires
+image-into-requires c κs = (c.cell_count-n.ensures.1, stored-none _ c.args.marks.now c.stored_cells-s.ensures, c.requires.3, c.requires.4, c.kind_of.ensures.1)
 
 returns : tie.Need-returns
 returns c =
-    let a = c.before.before.before.before.before.before.before.before.before.args in
-    makes a.p.now a.r a.cells.now a.marks.now a.buffer.now c.before.kind-of.ensures.0 c.before.before.before.before.before.before.before.cell-count.ensures.0 c.before.before.before.before.before.before.stored-cells.ensures
-    c.before.before.before.before.before.before.before.before.before.requires.2 c.before.before.before.before.before.before.before.before.before.requires.3 c.before.before.before.before.before.before.before.before.before.requires.4 c.before.before.before.before.after.ensures c.image-into.ensures
+    let a = c.args in
+    makes a.p.now a.r a.cells.now a.marks.now a.buffer.now c.kind_of.ensures.0 c.cell_count-n.ensures.0 c.stored_cells-s.ensures
+    c.requires.2 c.requires.3 c.requires.4 c.after.ensures c.image_into.ensures
 
 pub make_spec : {M : Type 1} → statement M
 make_spec =
