@@ -36,7 +36,9 @@ def main(log, crate):
             while k < len(digits) and digits[k] == "1":
                 k += 1
             rest = digits[k + 1 :] if k < len(digits) else []
-            k = min(k, len(names) - 1)
+            if k >= len(names):
+                print("which", path, line, col, s[at : at + 20], names)
+                continue
             lines[line - 1] = s[:at] + "." + ".".join([names[k]] + rest) + s[at + len(m.group(1)) :]
         open(p, "w", encoding="utf-8").write("\n".join(lines))
         print(p, len(places))

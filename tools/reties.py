@@ -158,7 +158,11 @@ def walk(pl, kind, fields, said):
         f = rest[0]
         if f == "pre":
             return ["requires"] + rest[1:], ("step",)
-        if f in ("args", "ranges") or (f == "fits" and "fits" not in pl.by_step):
+        if f == "good":
+            return ["well_formed"] + rest[1:], ("step",)
+        if f == "fits" and "fits" not in pl.by_step and len(rest) > 1:
+            return ["ranges", pl.args.get(plain(rest[1]), rest[1]), "fits"] + rest[2:], ("step",)
+        if f in ("args", "ranges"):
             if len(rest) == 1:
                 return [f], ("args",)
             return [f, pl.args.get(plain(rest[1]), rest[1])] + rest[2:], ("step",)
@@ -170,6 +174,8 @@ def walk(pl, kind, fields, said):
             if got is None:
                 said.append("swallowed " + ".".join(fields))
                 return fields, ("step",)
+            if len(rest) >= 2 and rest[1] in ("auto", "new") and all(x == "1" for x in rest[2:]) and pl.params.get(pl.it["places"][a][3] or ""):
+                return got[: len(got) - len(rest[2:])] if rest[2:] else got, ("new", a, len(rest[2:]))
             return got, (("step", a) if len(rest) == 1 else ("step",))
         return rest, ("step",)
     if kind and kind[0] == "args":
@@ -178,6 +184,8 @@ def walk(pl, kind, fields, said):
         if len(kind) == 2:
             fields = pl.named(kind[1], fields)
         return fields, ("step",)
+    if kind and kind[0] == "new":
+        return pl.named(kind[1], ["new"] + ["1"] * kind[2] + fields)[1:], ("step",)
     out, done = [], False
     for k, f in enumerate(fields):
         if done:
@@ -259,19 +267,29 @@ def turn(path, it, name):
             if block and not re.search(rf"(?<![\w.'\-]){re.escape(l)}(?![\w'\-])", rest):
                 head = rest
     returns = {}
-    for m in re.finditer(rf"(?m)^(?:abbrev )?({WORD}) : tie\.({WORD}) → tie\.({WORD})$", head):
-        if plain(m.group(3)) in pl.index:
-            returns[m.group(1)] = pl.index[plain(m.group(3))]
+    seen_from = {}
+    for m in re.finditer(rf"(?m)^(?:abbrev )?({WORD}) : tie\.({WORD})([^→\n]*) → tie\.({WORD})[^→\n]*$", head):
+        if plain(m.group(4)) in pl.index and plain(m.group(2)) in pl.index:
+            returns[m.group(1)] = pl.index[plain(m.group(4))]
+            seen_from[m.group(1)] = pl.index[plain(m.group(2))]
+    # a record of an earlier place, seen from a later one
+    for helper, far in seen_from.items():
+        m = re.search(rf"(?m)^{re.escape(helper)} ({WORD}) = (.*)$", head)
+        if m:
+            got = argument(pl, m.group(1), far, returns[helper], said)
+            if got:
+                head = head[: m.start(2)] + got + head[m.end(2) :]
     whole = {}
     for m in re.finditer(rf"(?m)^module _ .*\(({WORD}) : tie\.({WORD})[^()]*\)", head):
         if plain(m.group(2)) in pl.index:
             whole[m.group(1)] = ("place", pl.index[plain(m.group(2))])
 
     takes = {l: pl.asked[g] for l, g in goal_of.items() if g in pl.asked}
-    for m in re.finditer(rf"(?m)^\s*(?:pub |abbrev )*({WORD}) : \({WORD} : tie\.({WORD})", head):
+    takes.update(seen_from)
+    for m in re.finditer(rf"(?m)^\s*(?:pub |abbrev )*({WORD}) : (?:\{{[^}}\n]*\}} )*\({WORD} : tie\.({WORD})", head):
         if plain(m.group(2)) in pl.index:
             takes[m.group(1)] = pl.index[plain(m.group(2))]
-    for m in re.finditer(rf"(?m)^\s*(?:pub |abbrev )*({WORD}) : tie\.({WORD}) →", head):
+    for m in re.finditer(rf"(?m)^\s*(?:pub |abbrev )*({WORD}) : tie\.({WORD})[^→\n]* →", head):
         if plain(m.group(2)) in pl.index:
             takes[m.group(1)] = pl.index[plain(m.group(2))]
 
@@ -289,11 +307,21 @@ def turn(path, it, name):
         for m in re.finditer(rf"\(({WORD}) : tie\.({WORD})[^()]*\)", block):
             if plain(m.group(2)) in pl.index:
                 kinds[m.group(1)] = ("place", pl.index[plain(m.group(2))])
-        m = re.search(rf"(?m)^(?:abbrev )?({WORD}) : tie\.({WORD}) →.*\n(?:.*\n)*?\1 ({WORD}) ", block)
+        m = re.search(rf"(?m)^(?:abbrev )?({WORD}) : tie\.({WORD})[^→\n]* →.*\n(?:.*\n)*?\1 ({WORD}) ", block)
         if m and plain(m.group(2)) in pl.index:
             kinds[m.group(3)] = ("place", pl.index[plain(m.group(2))])
+        for l in seen_from:
+            if re.search(rf"(?m)^{re.escape(l)} {WORD} =", block):
+                kinds = {}
         out, last = [], 0
+        lets = {}
+        for m in re.finditer(rf"let ({WORD}) = ({WORD}) ({WORD})((?:\.{WORD})*)\s+in\b", block):
+            if m.group(2) in returns:
+                lets[m.start()] = (m.group(1), ("place", returns[m.group(2)]))
         for m in PATH.finditer(block):
+            for at in [a for a in lets if a < m.start()]:
+                v, k = lets.pop(at)
+                kinds[v] = k
             root, fields = m.group(1), m.group(2)[1:].split(".")
             line = block[block.rfind("\n", 0, m.start()) + 1 : m.start()]
             if line.startswith(("use ", "pub use ", "--")) or root in ("tie", "Rattle", "lib", "mir", "native", "borrow", "mathlib"):
@@ -306,6 +334,7 @@ def turn(path, it, name):
                     got = argument(pl, inner.group(2), kinds[inner.group(2)][1], takes[inner.group(1)], said)
                     if got:
                         root = f"({inner.group(1)} {got})"
+                    kind = kind or ("step",)
                 elif kind is None:
                     kind = ("step",)
 

@@ -3,6 +3,8 @@
 // takes any program, words, chips and numbers, and is `FoldIs` of specs/Fold.antt; specs/Lists.antt states what
 // every list of its calls and cuts leaves, and proofs/Theorem.antt has it. That a batch goes on with the new
 // chip is proved in crate `batch`.
+#![tactic(auto)]
+
 ghost use Rattle.std.specs.Prelude.{◌≡◌, true, ◌+◌, ◌≤◌, min, length, take};
 ghost use Rattle.cellset.specs.Sets.{SetIs};
 ghost use Rattle.program.specs.Places.{Places};

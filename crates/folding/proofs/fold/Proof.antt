@@ -8,39 +8,39 @@ use borrow.Author.Rules.{rules}
 use Rattle.folding.proofs.fold.Statement.{statement}
 use Rattle.folding.proofs.fold.Tie as tie
 
-blank-requires : tie.Need-blank-requires
+blank-requires : tie.Need-blank-table-requires
 blank-requires c κs = search rules
 
 examine-requires : tie.Need-examine-requires
-examine-requires c κs = c.before.blank.ensures
+examine-requires c κs = c.blank-table.ensures
 
-enum-known-number : tie.Need-enum-known-number
+enum-known-number : tie.Need-enum_known-number
 enum-known-number c = search rules
 
-enum_told : tie.Need-enum-told
+enum_told : tie.Need-enum_told-1
 enum_told c = search rules
 
-fold-legal-requires : tie.Need-fold-legal-requires
+fold-legal-requires : tie.Need-fold_legal-requires
 fold-legal-requires c κs =
-    let told = c.before.before.enum_told.given.1 in
-    let answer = c.before.before.before.before.examine.ensures in
+    let told = c.in-Program.is in
+    let answer = c.examine.ensures in
     (legal (sym told ∙ answer.checks.is), answer.places _ _ _ told)
 
-returns : tie.Need-returns
+returns : tie.Need-returns-in-Refused
 returns c =
-    let s = c.before.before.before.before.before.before.before.before.before.before.args in
+    let s = c.args in
     fold_is _ _ _ _ _ _
     (refused-program s.program.now s.sets.now s.old.now s.new.now s.stored s.budget
-    (rw c.before.number.given.1 at c.before.before.before.examine.ensures.checks))
+    (rw c.in-Refused.is at c.examine.ensures.checks))
 
-same_length : tie.Need-same-length
+same_length : tie.Need-shape_of-new
 same_length c = search rules
 
-returns-2 : tie.Need-returns-2
-returns-2 c = fold_is _ _ _ _ _ _ c.before.before.fold-legal.ensures
+returns-2 : tie.Need-returns-in-Program
+returns-2 c = fold_is _ _ _ _ _ _ c.fold_legal.ensures
 
-pub fold-spec : {M : Type 1} → statement M
-fold-spec =
+pub fold_spec : {M : Type 1} → statement M
+fold_spec =
     tie.close
     (tie.spec
     blank-requires

@@ -1,5 +1,6 @@
 -- `folding::fold_legal` meets its contract: 9, 11, 16, or what is put on the new chip.
 -- Assumes nothing.
+use Rattle.std.proofs.Common.{ap, not}
 use Prim.Native.Nat.{◌≤◌}
 use mathlib.Core.Path.{◌≡◌}
 use mathlib.Core.Bool.{true}
@@ -14,110 +15,110 @@ use Rattle.folding.proofs.fold_legal.Statement.{statement}
 use Rattle.folding.proofs.fold_legal.Tie as tie
 
 -- the function's beginning, seen from where the new chip has a length that a chip may have
-abbrev start : tie.Else2 → tie.Start
+abbrev start : tie.Else-not-is_length → tie.Start
 start c = c.before.before.before.before.before.before.before
 
 -- the same, seen from where scan has answered
-abbrev long : tie.After-scan → tie.Else2
+abbrev long : tie.After-scan-contents → tie.Else-not-is_length
 long c = c.before.before.before
 
 -- what is known of the new chip there
-fits : (c : tie.After-scan) → chip_length 1 (length (start (long c)).args.new.now) ≡ true
-fits c = new-fits _ (long c).before.is-length.result (long c).before.is-length.ensures (long c).if2.false
+fits : (c : tie.After-scan-contents) → chip_length 1 (length (start (long c)).args.new.now) ≡ true
+fits c = new-fits _ (long c).is_length.result (long c).is_length.ensures (long c)(ap not .if-not-is_length.false)
 
 -- the owner is the plan's
-plan : (c : tie.After-scan) → c.before.before.owner_of.result ≡ owner_of_plan (start (long c)).args.program.now
-plan c = c.before.before.owner_of.ensures
+plan : (c : tie.After-scan-contents) → c.owner_of-owner.result ≡ owner_of_plan (start (long c)).args.program.now
+plan c = c.owner_of-owner.ensures
 
 -- what is known of the old chip there
-answers : (c : tie.After-scan)
+answers : (c : tie.After-scan-contents)
     → let s = (start (long c)).args in
-    Answered 1 c.before.before.owner_of.result s.program.now s.sets.now s.table.now s.old.now c.scan.result.answer c.scan.result.values
+    Answered 1 c.owner_of-owner.result s.program.now s.sets.now s.table.now s.old.now c.scan-contents.result.answer c.scan-contents.result.values
 answers c =
     let s = start (long c) in
-    let words : 512 ≤ length s.args.sets.now = omega (arith, (long c).before.before.if1.false) in
-    answered 1 c.before.before.owner_of.result _ _ _ _ s.pre.0 s.pre.1 words c.before.byte_at.ensures c.scan.ensures.scans
+    let words : 512 ≤ length s.args.sets.now = omega (arith, (long c).if-sets-lt512.false) in
+    answered 1 c.owner_of-owner.result _ _ _ _ s.pre.0 s.pre.1 words c.byte_at-highest.ensures c.scan-contents.ensures.scans
 
-returns : tie.Need-returns
+returns : tie.Need-returns-then-sets-lt512
 returns c =
-    let s = c.before.before.before.before.before in
-    refused-words s.args.program.now s.args.sets.now s.args.old.now s.args.new.now s.args.stored s.args.budget s.requires.0 c.if1.true
+    let s = c in
+    refused-words s.args.program.now s.args.sets.now s.args.old.now s.args.new.now s.args.stored s.args.budget s.requires.0 c.if-sets-lt512.true
 
-is-length-requires : tie.Need-is-length-requires
+is-length-requires : tie.Need-is_length-requires
 is-length-requires c κs = search rules
 
-returns-2 : tie.Need-returns-2
+returns-2 : tie.Need-returns-then-not-is_length
 returns-2 c =
-    let s = c.before.before.before.before.before.before.before in
+    let s = c in
     refused-new s.args.program.now s.args.sets.now s.args.old.now s.args.new.now s.args.stored s.args.budget s.requires.0
-    c.before.before.if1.false c.before.is-length.result c.before.is-length.ensures c.if2.true
+    c.if-sets-lt512.false c.is_length.result c.is_length.ensures (ap not c.if-not-is_length.true)
 
-owner-of-requires : tie.Need-owner-of-requires
+owner-of-requires : tie.Need-owner_of-owner-requires
 owner-of-requires c κs = search rules
 
-byte-at-requires : tie.Need-byte-at-requires
+byte-at-requires : tie.Need-byte_at-highest-requires
 byte-at-requires c κs = search rules
 
-scan-requires : tie.Need-scan-requires
+scan-requires : tie.Need-scan-contents-requires
 scan-requires c κs = search rules
 
-enum_told : tie.Need-enum-told
+enum_told : tie.Need-enum_told-1
 enum_told c = search rules
 
-enum-told-2 : tie.Need-enum-told-2
+enum-told-2 : tie.Need-enum_told-in-Damaged
 enum-told-2 c = search rules
 
-fold-older-requires : tie.Need-fold-older-requires
+fold-older-requires : tie.Need-fold_older-requires
 fold-older-requires c κs =
-    let told = c.before in
-    let found = told.before.before.before in
-    let s = (start (long found)).args in
-    damaged-length (answers found) (plan found) s.new.now s.stored s.budget (fits found) told.enum-told2.given.1
+    let told = c in
+    let found = told in
+    let s = (start (long found.before.before.before)).args in
+    damaged-length (answers found.before.before.before) (plan found.before.before.before) s.new-1.now s.stored s.budget (fits found.before.before.before) told.in-Damaged.is
 
-enum-known-answer : tie.Need-enum-known-answer
+enum-known-answer : tie.Need-enum_known-answer
 enum-known-answer c = search rules
 
-returns-3 : tie.Need-returns-3
+returns-3 : tie.Need-returns-then-not-own
 returns-3 c =
-    let told = c.before.before in
-    let found = told.before.before.before in
-    let s = (start (long found)).args in
-    refused-owner (answers found) (plan found) s.new.now s.stored s.budget (fits found) told.answer.given.1 (not-true _ c.if3.true) (omega arith)
+    let told = c in
+    let found = told in
+    let s = (start (long found.before.before.before)).args in
+    refused-owner (answers found.before.before.before) (plan found.before.before.before) s.new-1.now s.stored s.budget (fits found.before.before.before) told.in-Found.is c.if-not-own.true (omega arith)
 
-fold-found-requires : tie.Need-fold-found-requires
+fold-found-requires : tie.Need-fold_found-requires
 fold-found-requires c κs = search rules
 
-returns-4 : tie.Need-returns-4
+returns-4 : tie.Need-returns-in-BadLength
 returns-4 c =
-    let found = c.before.before.before in
-    let s = (start (long found)).args in
-    refused-old (answers found) (plan found) s.new.now s.stored s.budget (fits found) c.enum_told.given.1 (omega arith)
+    let found = c in
+    let s = (start (long found.before.before)).args in
+    refused-old (answers found.before.before) (plan found.before.before) s.new-1.now s.stored s.budget (fits found.before.before) c.in-BadLength.is (omega arith)
 
-same_length : tie.Need-same-length
+same_length : tie.Need-shape_of-new-in-Damaged
 same_length c = search rules
 
-returns-5 : tie.Need-returns-5
+returns-5 : tie.Need-returns-in-Damaged
 returns-5 c =
-    let told = c.before.before.before.before in
-    let found = told.before.before.before in
-    let s = (start (long found)).args in
-    folded-older (answers found) (plan found) s.new.now s.stored s.budget (fits found) told.enum-told2.given.1 found.before.byte_at.ensures
-    c.before.before.fold-older.ensures
+    let told = c in
+    let found = told in
+    let s = (start (long found.before.before.before.before.before.before)).args in
+    folded-older (answers found.before.before.before.before.before.before) (plan found.before.before.before.before.before.before) s.new-1.now s.stored s.budget (fits found.before.before.before.before.before.before) told.in-Damaged.is found.byte_at-highest.ensures
+    c.fold_older.ensures
 
-same-length-2 : tie.Need-same-length-2
+same-length-2 : tie.Need-shape_of-new-else-not-own
 same-length-2 c = search rules
 
-returns-6 : tie.Need-returns-6
+returns-6 : tie.Need-returns-else-not-own
 returns-6 c =
-    let own = c.before.before.before.before.before in
-    let told = own.before.before in
-    let found = told.before.before.before in
-    let s = (start (long found)).args in
-    folded (answers found) (plan found) s.new.now s.stored s.budget (fits found) told.answer.given.1 (not-false _ own.if3.false)
-    c.before.before.fold-found.ensures
+    let own = c in
+    let told = own in
+    let found = told in
+    let s = (start (long found.before.before.before.before.before.before.before.before)).args in
+    folded (answers found.before.before.before.before.before.before.before.before) (plan found.before.before.before.before.before.before.before.before) s.new-1.now s.stored s.budget (fits found.before.before.before.before.before.before.before.before) told.in-Found.is own.if-not-own.false
+    c.fold_found.ensures
 
-pub fold-legal-spec : {M : Type 1} → statement M
-fold-legal-spec =
+pub fold_legal_spec : {M : Type 1} → statement M
+fold_legal_spec =
     tie.close
     (tie.spec
     returns

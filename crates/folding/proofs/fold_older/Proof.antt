@@ -6,46 +6,46 @@ use borrow.Author.Rules.{rules}
 use Rattle.folding.proofs.fold_older.Statement.{statement}
 use Rattle.folding.proofs.fold_older.Tie as tie
 
-scan-requires : tie.Need-scan-requires
+scan-requires : tie.Need-scan-contents-requires
 scan-requires c κs = search rules
 
-enum_told : tie.Need-enum-told
+enum_told : tie.Need-enum_told-1
 enum_told c = search rules
 
-enum-told-2 : tie.Need-enum-told-2
+enum-told-2 : tie.Need-enum_told-in-Damaged
 enum-told-2 c = search rules
 
-enum-known-answer : tie.Need-enum-known-answer
+enum-known-answer : tie.Need-enum_known-answer
 enum-known-answer c = search rules
 
-fold-found-requires : tie.Need-fold-found-requires
+fold-found-requires : tie.Need-fold_found-requires
 fold-found-requires c κs = search rules
 
-returns : tie.Need-returns
+returns : tie.Need-returns-in-BadLength
 returns c =
-    let s = c.before.before.before.before.before.before in
-    let read = c.before.before.before.scan in
+    let s = c in
+    let read = c.scan-contents in
     older-length s.args.highest s.args.table.now s.args.old.now read.result.answer read.result.values read.ensures.scans s.args.owner s.args.new.now s.args.stored s.args.budget s.requires
-    c.enum_told.given.1
+    c.in-BadLength.is
 
-returns-2 : tie.Need-returns-2
+returns-2 : tie.Need-returns-in-Damaged
 returns-2 c =
-    let s = c.before.before.before.before.before.before.args in
-    let read = c.before.before.before.scan in
-    older-damaged s.highest s.table.now s.old.now read.result.answer read.result.values read.ensures.scans s.owner s.new.now s.stored s.budget c.enum-told2.given.1 (omega arith)
+    let s = c.args in
+    let read = c.scan-contents in
+    older-damaged s.highest s.table.now s.old.now read.result.answer read.result.values read.ensures.scans s.owner s.new.now s.stored s.budget c.in-Damaged.is (omega arith)
 
-same_length : tie.Need-same-length
+same_length : tie.Need-shape_of-new
 same_length c = search rules
 
-returns-3 : tie.Need-returns-3
+returns-3 : tie.Need-returns-in-Found
 returns-3 c =
-    let s = c.before.before.before.before.before.before.before.before.before.before.before.before.args in
-    let read = c.before.before.before.before.before.before.before.before.before.scan in
+    let s = c.args in
+    let read = c.scan-contents in
     older-found s.highest s.table.now s.old.now read.result.answer read.result.values read.ensures.scans s.owner s.new.now s.stored s.budget
-    c.before.before.before.before.before.before.answer.given.1 c.before.before.fold-found.ensures
+    c.in-Found.is c.fold_found.ensures
 
-pub fold-older-spec : {M : Type 1} → statement M
-fold-older-spec =
+pub fold_older_spec : {M : Type 1} → statement M
+fold_older_spec =
     tie.close
     (tie.spec
     scan-requires

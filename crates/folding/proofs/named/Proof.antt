@@ -7,5 +7,5 @@ use Rattle.folding.proofs.named.Tie as tie
 returns : tie.Need-returns
 returns c = refl
 
-pub named-spec : {M : Type 1} → statement M
-named-spec = tie.close (tie.spec returns)
+pub named_spec : {M : Type 1} → statement M
+named_spec = tie.close (tie.spec returns)

@@ -9,53 +9,49 @@ use borrow.Author.Rules.{rules}
 use Rattle.listing.proofs.put_accepted.Statement.{statement}
 use Rattle.listing.proofs.put_accepted.Tie as tie
 
-byte-at-requires : tie.Need-byte-at-requires
+byte-at-requires : tie.Need-byte_at-requires
 byte-at-requires c κs = search rules
 
-cast-cells : tie.Need-overflow-cast-cells
+cast-cells : tie.Need-overflow_cast-cells
 cast-cells c = search rules
 
-add-cells : tie.Need-overflow-add-cells
+add-cells : tie.Need-overflow_add-cells
 add-cells c = search rules
 
-slice-aggregate-put-head : tie.Need-slice-aggregate-put-head
-slice-aggregate-put-head c = search rules
-
-put-head-requires : tie.Need-put-head-requires
+put-head-requires : tie.Need-put_head-end-requires
 put-head-requires c κs = search rules
 
-put-lines-requires : tie.Need-put-lines-requires
+put-lines-requires : tie.Need-put_lines-requires
 unfolding bytes
 put-lines-requires c κs =
-    let at_head = c.before.before.before in
-    let at_byte = at_head.before.before.before in
-    let s = at_byte.before.before.before.before in (
+    let at_head = c in
+    let at_byte = at_head in
+    let s = at_byte in (
       s.requires.0,
       s.requires.1,
       ap (λ (n : ℕ). n + 1) at_byte.byte_at.ensures,
       omega arith,
-      accepted-room _ _ s.requires.0 at_byte.byte_at.ensures (omega arith) at_head.put-head.ensures.0,
+      accepted-room _ _ s.requires.0 at_byte.byte_at.ensures (omega arith) at_head.put_head-end.ensures.0,
     )
 
-same_length : tie.Need-same-length
+same_length : tie.Need-shape_of-out
 same_length c = search rules
 
 returns : tie.Need-returns
 unfolding bytes
 returns c =
-    let at_head = c.before.before.before.before.before.before in
-    let at_byte = at_head.before.before.before in
-    let s = at_byte.before.before.before.before in
-    accepted-wrote _ _ s.requires.0 at_byte.byte_at.ensures (omega arith) at_head.put-head.ensures.0 c.before.before.put-lines.ensures
+    let at_head = c in
+    let at_byte = at_head in
+    let s = at_byte in
+    accepted-wrote _ _ s.requires.0 at_byte.byte_at.ensures (omega arith) at_head.put_head-end.ensures.0 c.put_lines.ensures
 
-pub put-accepted-spec : {M : Type 1} → statement M
-put-accepted-spec =
+pub put_accepted_spec : {M : Type 1} → statement M
+put_accepted_spec =
     tie.close
     (tie.spec
     byte-at-requires
     cast-cells
     add-cells
-    slice-aggregate-put-head
     put-head-requires
     put-lines-requires
     same_length

@@ -5,19 +5,19 @@ use borrow.Author.Rules.{rules}
 use Rattle.listing.proofs.put_exclude.Statement.{statement}
 use Rattle.listing.proofs.put_exclude.Tie as tie
 
-mul-load : tie.Need-overflow-mul-load
+mul-load : tie.Need-overflow_mul-number
 mul-load c = search rules
 
-load-requires : tie.Need-load-requires
+load-requires : tie.Need-load-de-requires
 load-requires c κs = search rules
 
-mul-load-2 : tie.Need-overflow-mul-load-2
+mul-load-2 : tie.Need-overflow_mul-number-2
 mul-load-2 c = search rules
 
-add-load : tie.Need-overflow-add-load
+add-load : tie.Need-overflow_add-number
 add-load c = search rules
 
-load-requires-2 : tie.Need-load-requires-2
+load-requires-2 : tie.Need-load-ro-requires
 load-requires-2 c κs = search rules
 
 below-requires : tie.Need-below-requires
@@ -26,40 +26,40 @@ below-requires c κs = search rules
 difference-requires : tie.Need-difference-requires
 difference-requires c κs = search rules
 
-difference-requires-2 : tie.Need-difference-requires-2
+difference-requires-2 : tie.Need-difference-rest-requires
 difference-requires-2 c κs = search rules
 
-put-line-requires : tie.Need-put-line-requires
+put-line-requires : tie.Need-put_line-requires
 put-line-requires c κs =
-    let at_rest = c.before in
-    let at_some = at_rest.before in
-    let at-below = at_some.before in
-    let at-ro = at-below.before in
-    let at-de = at-ro.before in
-    let s = at-de.before.before.before in (
+    let at_rest = c in
+    let at_some = at_rest in
+    let at-below = at_some in
+    let at-ro = at-below in
+    let at-de = at-ro in
+    let s = at-de in (
       s.requires.0,
       line-room
-          (agreed s.args.sets.now s.args.number s.requires.0 at-de.load.ensures at-ro.load2.ensures at-below.below.ensures at_some.difference.ensures at_rest.difference2.ensures)
+          (agreed s.args.sets.now s.args.number s.requires.0 at-de.load-de.ensures at-ro.load-ro.ensures at-below.below.ensures at_some.difference.ensures at_rest.difference-rest.ensures)
           _ s.requires.2,
     )
 
-same_length : tie.Need-same-length
+same_length : tie.Need-shape_of-out
 same_length c = search rules
 
 returns : tie.Need-returns
 returns c =
-    let at_rest = c.before.before.before.before in
-    let at_some = at_rest.before in
-    let at-below = at_some.before in
-    let at-ro = at-below.before in
-    let at-de = at-ro.before in
-    let s = at-de.before.before.before in
+    let at_rest = c in
+    let at_some = at_rest in
+    let at-below = at_some in
+    let at-ro = at-below in
+    let at-de = at-ro in
+    let s = at-de in
     line-written
-    (agreed s.args.sets.now s.args.number s.requires.0 at-de.load.ensures at-ro.load2.ensures at-below.below.ensures at_some.difference.ensures at_rest.difference2.ensures)
-    _ c.before.before.put-line.ensures
+    (agreed s.args.sets.now s.args.number s.requires.0 at-de.load-de.ensures at-ro.load-ro.ensures at-below.below.ensures at_some.difference.ensures at_rest.difference-rest.ensures)
+    _ c.put_line.ensures
 
-pub put-exclude-spec : {M : Type 1} → statement M
-put-exclude-spec =
+pub put_exclude_spec : {M : Type 1} → statement M
+put_exclude_spec =
     tie.close
     (tie.spec
     mul-load

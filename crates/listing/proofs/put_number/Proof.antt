@@ -1,5 +1,6 @@
 -- `listing::put_number` meets its contract: a space and the number, where the cell is in the set.
 -- Assumes nothing.
+use Rattle.std.proofs.Common.{ap, not}
 use Rattle.listing.specs.Text.{bytes}
 use Rattle.listing.proofs.Cells.{number-none, number-parts}
 use Rattle.listing.proofs.Writing.{wrote_then, room-first, room-then}
@@ -7,40 +8,40 @@ use borrow.Author.Rules.{rules}
 use Rattle.listing.proofs.put_number.Statement.{statement}
 use Rattle.listing.proofs.put_number.Tie as tie
 
-cast-contains : tie.Need-overflow-cast-contains
+cast-contains : tie.Need-overflow_cast-c
 cast-contains c = search rules
 
 contains-requires : tie.Need-contains-requires
 contains-requires c κs = search rules
 
-returns : tie.Need-returns
-returns c = number-none _ _ c.before.contains.ensures c.if1.true
+returns : tie.Need-returns-then-not-contains
+returns c = number-none _ _ c.contains.ensures (ap not c.if-not-contains.true)
 
-put-requires : tie.Need-put-requires
+put-requires : tie.Need-put-end-requires
 unfolding bytes
 put-requires c κs =
-    let at_test = c.before.before in
-    room-first (number-parts _ _ at_test.contains.ensures c.before.if1.false) at_test.before.before.requires.1
+    let at_test = c in
+    room-first (number-parts _ _ at_test.contains.ensures (ap not c.if-not-contains.false)) at_test.requires.1
 
-put-decimal-requires : tie.Need-put-decimal-requires
+put-decimal-requires : tie.Need-put_decimal-requires
 unfolding bytes
 put-decimal-requires c κs =
-    let at-put = c.before.before.before in
-    let at-if1 = at-put.before.before in
-    room-then (number-parts _ _ at-if1.before.contains.ensures at-if1.if1.false) at-if1.before.before.before.requires.1 at-put.put.ensures
+    let at-put = c in
+    let at-if1 = at-put in
+    room-then (number-parts _ _ at-if1.contains.ensures (ap not at-if1.if-not-contains.false)) at-if1.requires.1 at-put.put-end.ensures
 
-same_length : tie.Need-same-length
+same_length : tie.Need-shape_of-out
 same_length c = search rules
 
-returns-2 : tie.Need-returns-2
+returns-2 : tie.Need-returns
 unfolding bytes
 returns-2 c =
-    let at-put = c.before.before.before.before.before.before in
-    let at-if1 = at-put.before.before in
-    wrote_then (number-parts _ _ at-if1.before.contains.ensures at-if1.if1.false) at-put.put.ensures c.before.before.put-decimal.ensures
+    let at-put = c in
+    let at-if1 = at-put in
+    wrote_then (number-parts _ _ at-if1.contains.ensures (ap not at-if1.if-not-contains.false)) at-put.put-end.ensures c.put_decimal.ensures
 
-pub put-number-spec : {M : Type 1} → statement M
-put-number-spec =
+pub put_number_spec : {M : Type 1} → statement M
+put_number_spec =
     tie.close
     (tie.spec
     cast-contains

@@ -8,39 +8,39 @@ use Rattle.listing.proofs.Cells.{Counting, counting-first, counting-room, counti
 use Rattle.listing.proofs.put_numbers.Statement.{statement}
 use Rattle.listing.proofs.put_numbers.Tie as tie
 
-abbrev invariant-loop : tie.invariant-loop
+abbrev invariant-loop : tie.invariant-loop-c
 invariant-loop out₀ at set cells end₀ c₀ out end c = Counting (has set.words) cells at out₀ out end c
 
-abbrev decreases-loop : tie.decreases-loop
+abbrev decreases-loop : tie.decreases-loop-c
 decreases-loop out₀ at set cells end₀ c₀ out end c = cells - c
 
-loop-holds : tie.Need-loop-init invariant-loop decreases-loop
-loop-holds c = counting-first c.before.requires.1
+loop-holds : tie.Need-loop-c-init invariant-loop decreases-loop
+loop-holds c = counting-first c.requires.1
 
-put-number-requires : tie.Need-put-number-requires invariant-loop decreases-loop
+put-number-requires : tie.Need-put_number-end-requires invariant-loop decreases-loop
 put-number-requires c κs =
-    let at_head = c.before.before in
-    (omega arith, counting-room at_head.loop.invariant c.before.loop-test.true)
+    let at_head = c in
+    (omega arith, counting-room at_head.loop-c.invariant c.loop-c-test.true)
 
-add-c : tie.Need-overflow-add-c invariant-loop decreases-loop
+add-c : tie.Need-overflow_add-c invariant-loop decreases-loop
 add-c c = omega arith
 
-loop-less : tie.Need-loop-smaller invariant-loop decreases-loop
+loop-less : tie.Need-loop-c-smaller invariant-loop decreases-loop
 loop-less c = omega arith
 
-loop-again : tie.Need-loop-preserved invariant-loop decreases-loop
+loop-again : tie.Need-loop-c-preserved invariant-loop decreases-loop
 loop-again c =
-    let at_test = c.before.before.before.before in
-    counting-turn at_test.before.loop.invariant at_test.loop-test.true c.before.before.put-number.ensures
+    let at_test = c in
+    counting-turn at_test.loop-c.invariant at_test.loop-c-test.true c.put_number-end.ensures
 
-same_length : tie.Need-same-length invariant-loop decreases-loop
-same_length c = wrote-size c.before.loop.invariant.wrote
+same_length : tie.Need-shape_of-out invariant-loop decreases-loop
+same_length c = wrote-size c.loop-c.invariant.wrote
 
 returns : tie.Need-returns invariant-loop decreases-loop
-returns c = counting-done c.before.loop.invariant c.loop-test.false
+returns c = counting-done c.loop-c.invariant c.loop-c-test.false
 
-pub put-numbers-spec : {M : Type 1} → statement M
-put-numbers-spec =
+pub put_numbers_spec : {M : Type 1} → statement M
+put_numbers_spec =
     tie.close
     (tie.spec
     invariant-loop

@@ -7,40 +7,40 @@ use Rattle.listing.proofs.Writing.{wrote-size, Spelling, spelling-first, spellin
 use Rattle.listing.proofs.text.put_word.Statement.{statement}
 use Rattle.listing.proofs.text.put_word.Tie as tie
 
-abbrev invariant-loop : tie.invariant-loop
+abbrev invariant-loop : tie.invariant-loop-i
 invariant-loop out₀ at word end₀ i₀ out end i = Spelling word at out₀ out end i
 
-abbrev decreases-loop : tie.decreases-loop
+abbrev decreases-loop : tie.decreases-loop-i
 decreases-loop out₀ at word end₀ i₀ out end i = length word - i
 
-loop-holds : tie.Need-loop-init invariant-loop decreases-loop
-loop-holds c = spelling-first c.before.before.requires
+loop-holds : tie.Need-loop-i-init invariant-loop decreases-loop
+loop-holds c = spelling-first c.requires
 
-shared-slice-read-put : tie.Need-shared-slice-read-put invariant-loop decreases-loop
+shared-slice-read-put : tie.Need-bounds-word-i invariant-loop decreases-loop
 shared-slice-read-put c = omega arith
 
-put-requires : tie.Need-put-requires invariant-loop decreases-loop
-put-requires c κs = spelling-room c.before.before.before.loop.invariant c.before.before.loop-test.true
+put-requires : tie.Need-put-end-requires invariant-loop decreases-loop
+put-requires c κs = spelling-room c.loop-i.invariant c.loop-i-test.true
 
-add-i : tie.Need-overflow-add-i invariant-loop decreases-loop
+add-i : tie.Need-overflow_add-i invariant-loop decreases-loop
 add-i c = omega arith
 
-loop-less : tie.Need-loop-smaller invariant-loop decreases-loop
+loop-less : tie.Need-loop-i-smaller invariant-loop decreases-loop
 loop-less c = omega arith
 
-loop-again : tie.Need-loop-preserved invariant-loop decreases-loop
+loop-again : tie.Need-loop-i-preserved invariant-loop decreases-loop
 loop-again c =
-    let at_test = c.before.before.before.before.before in
-    spelling-turn at_test.before.loop.invariant at_test.loop-test.true c.before.before.put.ensures
+    let at_test = c in
+    spelling-turn at_test.loop-i.invariant at_test.loop-i-test.true c.put-end.ensures
 
-same_length : tie.Need-same-length invariant-loop decreases-loop
-same_length c = wrote-size c.before.loop.invariant.wrote
+same_length : tie.Need-shape_of-out invariant-loop decreases-loop
+same_length c = wrote-size c.loop-i.invariant.wrote
 
 returns : tie.Need-returns invariant-loop decreases-loop
-returns c = spelling-done c.before.loop.invariant c.loop-test.false
+returns c = spelling-done c.loop-i.invariant c.loop-i-test.false
 
-pub put-word-spec : {M : Type 1} → statement M
-put-word-spec =
+pub put_word_spec : {M : Type 1} → statement M
+put_word_spec =
     tie.close
     (tie.spec
     invariant-loop

@@ -12,7 +12,7 @@ use Rattle.run.proofs.run.exit_before.Tie as tie
 -- no READ is due with no reading left
 fed : (c : tie.Joined-due-eq-READ)
     → let s = c.args in c.due_opcode-due.result ≡ 7 → s.b.taken ≡ s.n → ⊥
-fed c d t = ⊎_elim (λ w. w.2.left t) (λ w. w.left d) c.if-due-eq-READ.branch
+fed c d t = ⊎_elim (λ w. w.if-b-n.false t) (λ w. w.if-due-eq-READ.false d) c.if-due-eq-READ.branch-raw
 
 returns : tie.Need-returns-then-stop-ne0
 returns c xs ms l outs w = exit-stopped _ _ _ _ (standing c.args.b xs ms l outs) c.if-stop-ne0.true

@@ -27,13 +27,13 @@ decreases-loop budget readings p table sets cells₀ marks₀ journal₀ outputs
 
 -- after the inner loop, and the function's beginning and the loop's, seen from after the save's stretch
 abbrev hurried : tie.After-store_some-b invariant-loop decreases-loop → tie.After-rush-b invariant-loop decreases-loop
-hurried c = c.before.before.before.before.before
+hurried c = c.before.before.before.before
 
 abbrev start : tie.After-store_some-b invariant-loop decreases-loop → tie.Start invariant-loop decreases-loop
-start c = (hurried c).before.before.before.before.before.before.before
+start c = c.before.before.before.before.before.before.before.before.before.before.before
 
 abbrev turn-start : tie.After-store_some-b invariant-loop decreases-loop → tie.At-loop-t invariant-loop decreases-loop
-turn-start c = (hurried c).before.before.before
+turn-start c = c.before.before.before.before.before.before.before
 
 abbrev env-at : tie.Start invariant-loop decreases-loop → Env
 env-at s = env_of s.args.p.now s.args.sets.now
@@ -41,48 +41,48 @@ env-at s = env_of s.args.p.now s.args.sets.now
 -- where the run stands there
 abbrev stood : tie.After-store_some-b invariant-loop decreases-loop → Call
 stood c =
-    let r = (hurried c).rush.new in
-    standing c.store_some-b.result r.1.1.1.1.0 c.store_some-b.new.1.1.1.1.0 c.store_some-b.new.1.1.1.1.1.0 r.1.1.1.1.1.0
+    let r = (hurried c).rush-b.new in
+    standing c.store_some-b.result r.cells c.store_some-b.new.marks c.store_some-b.new.journal r.outputs
 
 rushed : (c : tie.After-store_some-b invariant-loop decreases-loop)
     → let s = start c in
-    let r = (hurried c).rush.new in
+    let r = (hurried c).rush-b.new in
     Running (env-at s) s.args.readings.now s.args.budget (machine_of s.args.start s.args.cells.now s.args.marks.now s.args.journal.now)
-    s.args.outputs.now c.store_some-b.result r.1.1.1.1.0 c.store_some-b.new.1.1.1.1.0 c.store_some-b.new.1.1.1.1.1.0 r.1.1.1.1.1.0
-rushed c = running-store (running-rush (turn-start c).loop.invariant (start c).requires.0 (hurried c).rush.ensures) (start c).requires.0 c.store_some-b.ensures
+    s.args.outputs.now c.store_some-b.result r.cells c.store_some-b.new.marks c.store_some-b.new.journal r.outputs
+rushed c = running-store (running-rush (turn-start c).loop-t.invariant (start c).requires.0 (hurried c).rush-b.ensures) (start c).requires.0 c.store_some-b.ensures
 
 -- the exit found there
 exits : (c : tie.After-exit_before invariant-loop decreases-loop)
     → let r = c in
-    let s = (start r).args in
+    let s = (start r.before.before.before.before).args in
     exit_of c.exit_before.result
-    ≡ exit_before_of s.p.now (s.budget - r.store_some-b.result.steps) (length s.readings.now) (length (hurried r).rush.new.1.1.1.1.1.0) (stood r)
+    ≡ exit_before_of s.p.now (s.budget - r.store_some-b.result.steps) (length s.readings.now) (length (hurried r.before.before.before.before).rush-b.new.outputs) (stood r.before.before.before.before)
 exits c = c.exit_before.ensures _ _ _ _ (rushed c.before.before.before.before).within.written
 
 -- there is none
 goes : (c : tie.In-None invariant-loop decreases-loop)
     → let r = c in
-    let s = (start r).args in
-    none ≡ exit_before_of s.p.now (s.budget - r.store_some-b.result.steps) (length s.readings.now) (length (hurried r).rush.new.1.1.1.1.1.0) (stood r)
+    let s = (start r.before.before.before.before.before).args in
+    none ≡ exit_before_of s.p.now (s.budget - r.store_some-b.result.steps) (length s.readings.now) (length (hurried r.before.before.before.before.before).rush-b.new.outputs) (stood r.before.before.before.before.before)
 goes c = ap exit_of (sym c.in-None.is) ∙ exits c.before
 
 -- the step was one of the run
 turned : (c : tie.After-turn-b invariant-loop decreases-loop)
     → let r = c in
     let b = c.turn-b.result in
-    let q = c.turn-b.new.outputs in
-    TurnIs (env-at (start r)) (start r).args.readings.now (stood r) (hurried r).rush.new.1.1.1.1.1.0 b
-    (standing b q.0 q.1.0 q.1.1.0 q.1.1.1.0) q.1.1.1.0
+    let q = c.turn-b.new in
+    TurnIs (env-at (start r.before.before.before.before.before.before.before.before.before.before.before)) (start r.before.before.before.before.before.before.before.before.before.before.before).args.readings.now (stood r.before.before.before.before.before.before.before.before.before.before.before) (hurried r.before.before.before.before.before.before.before.before.before.before.before).rush-b.new.outputs b
+    (standing b q.cells q.marks q.journal q.outputs) q.outputs
 turned c =
     let r = c in
-    c.turn-b.ensures (start r).args.readings.now (rest_is _ (start r).args.readings.now) (rushed r.before.before.before.before.before.before.before.before.before.before.before).within.taken
+    c.turn-b.ensures (start r.before.before.before.before.before.before.before.before.before.before.before).args.readings.now (rest_is _ (start r.before.before.before.before.before.before.before.before.before.before.before).args.readings.now) (rushed r.before.before.before.before.before.before.before.before.before.before.before).within.taken
 
 -- ---- the needs
 
 loop-holds : tie.Need-loop-t-init invariant-loop decreases-loop
 loop-holds c =
     let s = c in
-    running-first (env-at s) s.args.readings.now s.args.budget
+    running-first (env-at s.before.before.before) s.args.readings.now s.args.budget
     (machine_of s.args.start s.args.cells.now s.args.marks.now s.args.journal.now) s.args.outputs.now s.requires.1
 
 rush-requires : tie.Need-rush-b-requires invariant-loop decreases-loop
@@ -103,7 +103,7 @@ sub-exit-before c = (rushed c.before.before.before).within.steps
 exit-before-requires : tie.Need-exit_before-requires invariant-loop decreases-loop
 exit-before-requires c κs =
     let r = c in
-    (legal-within _ _ (start r).requires.0.accepted (sound-start _ _ (rushed r.before.before.before).well_formed.sound)).0
+    (legal-within _ _ (start r.before.before.before).requires.0.accepted (sound-start _ _ (rushed r.before.before.before).good.sound)).0
 
 enum_told : tie.Need-enum_told-1 invariant-loop decreases-loop
 enum_told c = c.in-None-1.keys1
@@ -111,7 +111,7 @@ enum_told c = c.in-None-1.keys1
 mul-turn : tie.Need-offset_bounds-readings-t invariant-loop decreases-loop
 mul-turn c =
     let r = c in
-    record { fits = omega (arith, (rushed r.before.before.before.before.before).within.taken, (start r).well_formed) }
+    record { fits = omega (arith, (rushed r.before.before.before.before.before).within.taken, (start r.before.before.before.before.before).well_formed) }
 
 sub-turn : tie.Need-slice_bounds-turn-count invariant-loop decreases-loop
 sub-turn c = (rushed c.before.before.before.before.before).within.taken
@@ -125,14 +125,14 @@ part-turn-end c = search rules
 turn-requires : tie.Need-turn-b-requires invariant-loop decreases-loop
 turn-requires c κs =
     let r = c in
-    let s = start r in
+    let s = start r.before.before.before.before.before.before.before.before.before.before in
     let w = rushed r.before.before.before.before.before.before.before.before.before.before in
     let g = goes c.before.before.before.before.before in
     let n = rest-length r.store_some-b.result.taken s.args.readings.now in (
-      s.pre.0,
+      s.requires.0,
       w.good,
-      omega (arith, running-left w g, s.fits.budget),
-      omega (arith, n, w.within.taken, s.good),
+      omega (arith, running-left w g, s.ranges.budget.fits),
+      omega (arith, n, w.within.taken, s.well_formed),
       w.within.written,
       running-due w g _ n,
     )
@@ -142,14 +142,14 @@ loop-less c =
     let r = c in
     let w = rushed r.before.before.before.before.before.before.before.before.before.before.before.before.before.before in
     let g = goes c.before.before.before.before.before.before.before.before.before in
-    omega (arith, running-left w g, turn-steps w g (turned c.before.before.before), (hurried r).rush.ensures.more, r.store_some-b.ensures.more)
+    omega (arith, running-left w g, turn-steps w g (turned c.before.before.before), (hurried r.before.before.before.before.before.before.before.before.before.before.before.before.before.before).rush-b.ensures.more, r.store_some-b.ensures.more)
 
 loop-again : tie.Need-loop-t-preserved invariant-loop decreases-loop
 loop-again c =
     let r = c in
     let g = goes c.before.before.before.before.before.before.before.before.before in
     let q = c in
-    running-turn (rushed r.before.before.before.before.before.before.before.before.before.before.before.before.before.before) g (turned q.before.before.before) (start r).requires.0 q.turn-b.auto.1.1.1.1.1.1.1.0
+    running-turn (rushed r.before.before.before.before.before.before.before.before.before.before.before.before.before.before) g (turned q.before.before.before) (start r.before.before.before.before.before.before.before.before.before.before.before.before.before.before).requires.0 q.turn-b.auto.journal
 
 enum-known-k : tie.Need-enum_known-k invariant-loop decreases-loop
 enum-known-k c = c.in-Stopped-1.keys2

@@ -71,8 +71,8 @@ moved-requires c κs =
     let m = c in
     let s = start m.before.before.before.before.before in
     let q = c.quiet-f in
-    moved-fits q.result s.pre.2 (lends m.before.before.before.before.before) q.ensures.steps q.ensures.taken q.ensures.written
-    (omega (arith, s.fits.budget)) (omega (arith, s.good)) (omega (arith, s.good))
+    moved-fits q.result s.requires.2 (lends m.before.before.before.before.before) q.ensures.steps q.ensures.taken q.ensures.written
+    (omega (arith, s.ranges.budget.fits)) (omega (arith, s.well_formed)) (omega (arith, s.well_formed))
 
 same_length : tie.Need-shape_of-outputs
 same_length c = search rules

@@ -5,6 +5,7 @@ use mathlib.Core.Path.{refl, ◌∙◌}
 use native.Mathlib.Nat.{le-add_right}
 use native.Mathlib.Omega.{arith}
 use mir.Facts.{to_z-of_z}
+use mir.Syntax.{w32}
 use lib.ListN.{length}
 use borrow.Author.Rules.{rules}
 use Rattle.step.specs.State.{Env, env_of}
@@ -25,7 +26,7 @@ counted : (c : tie.After-step-q)
 counted c =
     let s = start c in
     turn-counts (env-at s) s.args.b s.args.cells.now s.args.marks.now s.args.journal.now _ s.args.outputs.now
-    _ (le-add_right _ _) s.pre.4 s.pre.5 _ _ _ _ c.step-q.ensures
+    _ (le-add_right _ _) s.requires.4 s.requires.5 _ _ _ _ c.step-q.ensures
 
 first-requires : tie.Need-first-requires
 first-requires c κs = search rules
@@ -39,7 +40,7 @@ sub-took : tie.Need-overflow_sub-took
 sub-took c = (counted c.before.before.before.before).readings
 
 sub-gave : tie.Need-overflow_sub-gave
-sub-gave c = (counted c.before.before.before.before.before.before).outputs-1
+sub-gave c = (counted c.before.before.before.before.before.before).outputs
 
 emitted-cell-requires : tie.Need-emitted_cell-requires
 emitted-cell-requires c κs =
@@ -88,9 +89,9 @@ returns c =
     let x = c.from_bits in
     let v = q.first in
     turn_is (env-at s) s.args.b s.args.cells.now s.args.marks.now s.args.journal.now _ s.args.outputs.now
-    _ (le-add_right _ _) s.pre.4 s.pre.5 _ _ _ _ q.step-q.ensures _ c.emitted_cell.ensures
-    _ (to_z-of_z (record { sfits = x.type_inv }) ∙ x.ensures) _ c.put_output.ensures
-    s.args.readings.now (to_z-of_z (record { sfits = v.type_inv }) ∙ v.ensures) refl
+    _ (le-add_right _ _) s.requires.4 s.requires.5 _ _ _ _ q.step-q.ensures _ c.emitted_cell.ensures
+    _ (to_z-of_z {w = w32} (record { sfits = x.type_inv }) ∙ x.ensures) _ c.put_output.ensures
+    s.args.readings.now (to_z-of_z {w = w32} (record { sfits = v.type_inv }) ∙ v.ensures) refl
 
 pub turn_spec : {M : Type 1} → statement M
 turn_spec =

@@ -14,7 +14,7 @@ use Rattle.run.proofs.stretch.store_some.Tie as tie
 
 -- what was known at the start, and what is once the checkpoint is made
 abbrev start : tie.After-make-total → tie.Start
-start made = made.before.before.before.before.before.before.before.before.before.before.before.before.before
+start made = made.before.before.before.before.before.before.before.before.before.before.before.before
 
 facts : (made : tie.After-make-total)
     → let a = (start made).args in
@@ -23,7 +23,7 @@ facts made =
     let s = start made in
     let a = s.args in
     let e = made.make-total.ensures in
-    stretch a.p.now a.b.regs a.cells.now a.marks.now a.journal.now s.pre.0 s.pre.1
+    stretch a.p.now a.b.regs a.cells.now a.marks.now a.journal.now s.requires.0 s.requires.1
     made.if-r-ne0.false made.if-r-eq0.false
     e.0 (e.1 a.journal.now).0
 
@@ -128,9 +128,9 @@ returns-4 c =
     (facts made.before.before.before.before.before.before.before.before.before.before.before.before.before) c.requires.0 c.requires.2 (least-pages (made.make-total.result - (a.b.regs.saving - 1)) a.b.regs.page (a.budget - a.b.steps) c.count_pages-2.ensures c.least-pages.ensures) (length-replicate {A = ℕ} 1584 0) (made.make-total.ensures.1 a.journal.now).1
     c.copy.ensures c.stored.ensures
     (⊎_elim
-    (λ came. marks-whole a.p.now a.marks.now came.0.taken came.2.ensures.0 (came.4 ∙ came.3.ensures))
-    (λ came. marks-part a.p.now a.marks.now came.0.left came.1)
-    c.if-from-m.branch)
+    (λ came. marks-whole a.p.now a.marks.now came.if-from-m.true came.cell_count.ensures.0 (came.marks-is ∙ came.keep.ensures))
+    (λ came. marks-part a.p.now a.marks.now came.if-from-m.false came.marks-is)
+    c.if-from-m.branch-raw)
 
 pub store_some_spec : {M : Type 1} → statement M
 store_some_spec =
