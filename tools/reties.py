@@ -257,6 +257,7 @@ def turn(path, it, name):
         if l not in lemma_goal.values() and not l.startswith(("invariant-", "decreases-")):
             said.append(f"gone {l}")
     goal_of = {v: k for k, v in lemma_goal.items()}
+    head = re.sub(r"\.pre(?=\.\d)", ".requires", head)
     head = re.sub(rf"\.type-inv\b", ".type_inv", head)
     head = re.sub(rf"\.well-formed\b", ".well_formed", head)
     # a goal that is no longer asked: its lemma goes
@@ -393,7 +394,7 @@ def turn(path, it, name):
 
     head = re.sub(rf"(?<![\w.])tie\.({WORD})", place, head)
     # a test of `!b` says now what b is: where the old fact was taken apart, that, and elsewhere the old fact is made of it
-    of_not = r"([\w.'\-₀₁₂]*\.if-not-[\w\-]*\.(?:true|false))"
+    of_not = r"((?:\([^()]*\))?[\w.'\-₀₁₂]*\.if-not-[\w\-]*\.(?:true|false))"
     head = re.sub(rf"\(not-(?:true|false) (?:\([^()]*\)|[^\s()]+) {of_not}\)", r"\1!", head)
     head = re.sub(rf"\bnot-(?:true|false) (?:\([^()]*\)|[^\s()]+) {of_not}", r"\1!", head)
     wrapped = re.sub(rf"{of_not}(?!!)", r"(ap not \1)", head)

@@ -63,6 +63,7 @@ module _ (xs : List ℕ) where
 
   held-only : (c a k : ℕ) → In c (held_from xs a k) → ¬ (get_or xs c 0 ≡ 0)
   unfolding held_from
+  held-only c a zero i = elim i [ ]
   held-only c a (suc k) i =
       let r = held-only c (suc a) k in
       held_cons a k (λ cs. In c cs → ¬ (get_or xs c 0 ≡ 0)) (λ _. r) (λ n. in-cons c a n r) i

@@ -1,6 +1,8 @@
 // Numbers in buffers of bytes, and the state's bytes (docs/C-API.md has the layout): each function is
 // equated with specs/Numbers.antt and specs/Layout.antt. That the bytes of a state hold that state, and
 // that storing what was loaded changes nothing, is proved in proofs/Laws.antt.
+#![tactic(auto)]
+
 ghost use Rattle.std.specs.Prelude.{◌≡◌, ◌+◌, ◌*◌, ◌≤◌, length, take};
 ghost use Rattle.std.proofs.lemmas.List.Edits.{sets};
 ghost use Rattle.layout.specs.Numbers.{numbers_from, bytes_of_all, signed_from, signed_bytes};

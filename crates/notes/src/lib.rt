@@ -2,6 +2,8 @@
 // cell is dead at the CHECKPOINT of the last whole checkpoint (save). `spent` takes any program, chip, page
 // length, owner and place, and tells whether a note may stand there: `SpentIs` of specs/Notes.antt. That a batch
 // goes on with such a chip is proved in crate `batch`.
+#![tactic(auto)]
+
 ghost use Rattle.std.specs.Prelude.{◌≡◌, true, List, ◌++◌, ℕ, ◌≤◌, ◌<◌, length};
 ghost use Rattle.instruction.specs.Bytes.{cells_of};
 ghost use Rattle.program.specs.Places.{Places, is_start};

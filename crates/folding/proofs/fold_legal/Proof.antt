@@ -24,7 +24,7 @@ long c = c.before.before.before
 
 -- what is known of the new chip there
 fits : (c : tie.After-scan-contents) → chip_length 1 (length (start (long c)).args.new.now) ≡ true
-fits c = new-fits _ (long c).is_length.result (long c).is_length.ensures (long c)(ap not .if-not-is_length.false)
+fits c = new-fits _ (long c).is_length.result (long c).is_length.ensures (ap not (long c).if-not-is_length.false)
 
 -- the owner is the plan's
 plan : (c : tie.After-scan-contents) → c.owner_of-owner.result ≡ owner_of_plan (start (long c)).args.program.now
@@ -37,7 +37,7 @@ answers : (c : tie.After-scan-contents)
 answers c =
     let s = start (long c) in
     let words : 512 ≤ length s.args.sets.now = omega (arith, (long c).if-sets-lt512.false) in
-    answered 1 c.owner_of-owner.result _ _ _ _ s.pre.0 s.pre.1 words c.byte_at-highest.ensures c.scan-contents.ensures.scans
+    answered 1 c.owner_of-owner.result _ _ _ _ s.requires.0 s.requires.1 words c.byte_at-highest.ensures c.scan-contents.ensures.scans
 
 returns : tie.Need-returns-then-sets-lt512
 returns c =

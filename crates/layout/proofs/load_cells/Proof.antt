@@ -11,36 +11,36 @@ use borrow.Author.Rules.{rules}
 use Rattle.layout.proofs.load_cells.Statement.{statement}
 use Rattle.layout.proofs.load_cells.Tie as tie
 
-abbrev invariant-loop : tie.invariant-loop
+abbrev invariant-loop : tie.invariant-loop-k
 invariant-loop bytes cells₀ k₀ cells k = (k ≤ 256) × (length cells ≡ 256) × (take k cells ≡ numbers_from 4 k bytes 0)
 
-abbrev decreases-loop : tie.decreases-loop
+abbrev decreases-loop : tie.decreases-loop-k
 decreases-loop bytes cells₀ k₀ cells k = 256 - k
 
-loop-holds : tie.Need-loop-init invariant-loop decreases-loop
+loop-holds : tie.Need-loop-k-init invariant-loop decreases-loop
 loop-holds c = (omega arith, search rules, numbers-none 4 _ 0)
 
-mul-load32 : tie.Need-overflow-mul-load32 invariant-loop decreases-loop
+mul-load32 : tie.Need-overflow_mul-k invariant-loop decreases-loop
 mul-load32 c = search rules
 
 load32-requires : tie.Need-load32-requires invariant-loop decreases-loop
 load32-requires c κs = search rules
 
-mul-cells : tie.Need-overflow-mul-cells invariant-loop decreases-loop
+mul-cells : tie.Need-offset_bounds-cells-k invariant-loop decreases-loop
 mul-cells c = search rules
 
-array-write-cells : tie.Need-array-write-cells invariant-loop decreases-loop
+array-write-cells : tie.Need-bounds-cells-k invariant-loop decreases-loop
 array-write-cells c = search rules
 
-add-k : tie.Need-overflow-add-k invariant-loop decreases-loop
+add-k : tie.Need-overflow_add-k invariant-loop decreases-loop
 add-k c = search rules
 
-loop-less : tie.Need-loop-smaller invariant-loop decreases-loop
+loop-less : tie.Need-loop-k-smaller invariant-loop decreases-loop
 loop-less c = search rules
 
-loop-again : tie.Need-loop-preserved invariant-loop decreases-loop
+loop-again : tie.Need-loop-k-preserved invariant-loop decreases-loop
 loop-again c =
-    let l = c.before.before.loop in (
+    let l = c.loop-k in (
       omega arith,
       length-set l.cells l.k _ ∙ l.invariant.1,
       loaded-turn 4 0 _ l.cells l.k l.invariant.2 (omega (arith, l.invariant.1)) c.load32.ensures (omega arith),
@@ -48,10 +48,10 @@ loop-again c =
 
 returns : tie.Need-returns invariant-loop decreases-loop
 unfolding cells_in
-returns c = loaded-done 4 0 _ _ c.before.loop.invariant.2 c.before.loop.invariant.1 (omega arith)
+returns c = loaded-done 4 0 _ _ c.loop-k.invariant.2 c.loop-k.invariant.1 (omega arith)
 
-pub load-cells-spec : {M : Type 1} → statement M
-load-cells-spec =
+pub load_cells_spec : {M : Type 1} → statement M
+load_cells_spec =
     tie.close
     (tie.spec
     invariant-loop

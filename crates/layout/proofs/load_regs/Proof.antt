@@ -31,12 +31,12 @@ load32-requires-8 c κs = search rules
 
 returns : tie.Need-returns
 returns c =
-    let d = c.before.before.before.before in
-    regs-loaded _ _ _ d.before.before.before.load32.ensures d.before.before.load322.ensures d.before.load323.ensures d.load324.ensures
-    c.before.before.before.load325.ensures c.before.before.load326.ensures c.before.load327.ensures c.load328.ensures
+    let d = c in
+    regs-loaded _ _ _ d.load32.ensures d.load32-2.ensures d.load32-3.ensures d.load32-4.ensures
+    c.load32-5.ensures c.load32-6.ensures c.load32-7.ensures c.load32-8.ensures
 
-pub load-regs-spec : {M : Type 1} → statement M
-load-regs-spec =
+pub load_regs_spec : {M : Type 1} → statement M
+load_regs_spec =
     tie.close
     (tie.spec
     load32-requires

@@ -11,59 +11,59 @@ use borrow.Author.Rules.{rules}
 use Rattle.layout.proofs.load_signed.Statement.{statement}
 use Rattle.layout.proofs.load_signed.Tie as tie
 
-abbrev invariant-loop : tie.invariant-loop
+abbrev invariant-loop : tie.invariant-loop-k
 invariant-loop bytes at values₀ n k₀ values k = (k ≤ n) × (length values ≡ length values₀) × (take k values ≡ signed_from k bytes at)
 
-abbrev decreases-loop : tie.decreases-loop
+abbrev decreases-loop : tie.decreases-loop-k
 decreases-loop bytes at values₀ n k₀ values k = n - k
 
-loop-holds : tie.Need-loop-init invariant-loop decreases-loop
+loop-holds : tie.Need-loop-k-init invariant-loop decreases-loop
 loop-holds c = (omega arith, refl, signed-none _ _)
 
-mul-load32 : tie.Need-overflow-mul-load32 invariant-loop decreases-loop
+mul-load32 : tie.Need-overflow_mul-k invariant-loop decreases-loop
 mul-load32 c = search rules
 
-add-load32 : tie.Need-overflow-add-load32 invariant-loop decreases-loop
+add-load32 : tie.Need-overflow_add-at invariant-loop decreases-loop
 add-load32 c = search rules
 
 load32-requires : tie.Need-load32-requires invariant-loop decreases-loop
 load32-requires c κs = search rules
 
-from-bits-requires : tie.Need-from-bits-requires invariant-loop decreases-loop
+from-bits-requires : tie.Need-from_bits-requires invariant-loop decreases-loop
 from-bits-requires c κs = search rules
 
-mul-t11 : tie.Need-overflow-mul-t11 invariant-loop decreases-loop
+mul-t11 : tie.Need-offset_bounds-values-k invariant-loop decreases-loop
 mul-t11 c = search rules
 
-slice-set-from-values : tie.Need-slice-set-from-values invariant-loop decreases-loop
+slice-set-from-values : tie.Need-bounds-values-k invariant-loop decreases-loop
 slice-set-from-values c = search rules
 
-add-k : tie.Need-overflow-add-k invariant-loop decreases-loop
+add-k : tie.Need-overflow_add-k invariant-loop decreases-loop
 add-k c = search rules
 
-loop-less : tie.Need-loop-smaller invariant-loop decreases-loop
+loop-less : tie.Need-loop-k-smaller invariant-loop decreases-loop
 loop-less c = search rules
 
-loop-again : tie.Need-loop-preserved invariant-loop decreases-loop
+loop-again : tie.Need-loop-k-preserved invariant-loop decreases-loop
 loop-again c =
-    let l = c.before.before.before.loop in (
+    let l = c.loop-k in (
       omega arith,
       length-set l.values l.k _ ∙ l.invariant.1,
-      signed-turn _ _ l.values l.k l.invariant.2 (omega (arith, l.invariant.1)) c.before.load32.ensures (omega arith)
-          (to_z-of_z (record { sfits = c.from-bits.type-inv }) ∙ c.from-bits.ensures),
+      signed-turn _ _ l.values l.k l.invariant.2 (omega (arith, l.invariant.1)) c.load32.ensures (omega arith)
+          (to_z-of_z (record { sfits = c.from_bits.type_inv }) ∙ c.from_bits.ensures),
     )
 
-same_length : tie.Need-same-length invariant-loop decreases-loop
+same_length : tie.Need-shape_of-values invariant-loop decreases-loop
 same_length c = search rules
 
 returns : tie.Need-returns invariant-loop decreases-loop
 returns c =
-    let l = c.before.loop in
-    let e : l.k ≡ c.before.before.before.args.n = omega arith in
+    let l = c.loop-k in
+    let e : l.k ≡ c.args.n = omega arith in
     rw e at l.invariant.2
 
-pub load-signed-spec : {M : Type 1} → statement M
-load-signed-spec =
+pub load_signed_spec : {M : Type 1} → statement M
+load_signed_spec =
     tie.close
     (tie.spec
     invariant-loop

@@ -10,36 +10,36 @@ use borrow.Author.Rules.{rules}
 use Rattle.layout.proofs.load_words.Statement.{statement}
 use Rattle.layout.proofs.load_words.Tie as tie
 
-abbrev invariant-loop : tie.invariant-loop
+abbrev invariant-loop : tie.invariant-loop-k
 invariant-loop bytes n words₀ k₀ words k = (k ≤ n) × (length words ≡ 512) × (take k words ≡ numbers_from 8 k bytes 0)
 
-abbrev decreases-loop : tie.decreases-loop
+abbrev decreases-loop : tie.decreases-loop-k
 decreases-loop bytes n words₀ k₀ words k = n - k
 
-loop-holds : tie.Need-loop-init invariant-loop decreases-loop
+loop-holds : tie.Need-loop-k-init invariant-loop decreases-loop
 loop-holds c = (omega arith, search rules, numbers-none 8 _ 0)
 
-mul-load64 : tie.Need-overflow-mul-load64 invariant-loop decreases-loop
+mul-load64 : tie.Need-overflow_mul-k invariant-loop decreases-loop
 mul-load64 c = search rules
 
 load64-requires : tie.Need-load64-requires invariant-loop decreases-loop
 load64-requires c κs = search rules
 
-mul_words : tie.Need-overflow-mul-words invariant-loop decreases-loop
+mul_words : tie.Need-offset_bounds-words-k invariant-loop decreases-loop
 mul_words c = search rules
 
-array-write-words : tie.Need-array-write-words invariant-loop decreases-loop
+array-write-words : tie.Need-bounds-words-k invariant-loop decreases-loop
 array-write-words c = search rules
 
-add-k : tie.Need-overflow-add-k invariant-loop decreases-loop
+add-k : tie.Need-overflow_add-k invariant-loop decreases-loop
 add-k c = search rules
 
-loop-less : tie.Need-loop-smaller invariant-loop decreases-loop
+loop-less : tie.Need-loop-k-smaller invariant-loop decreases-loop
 loop-less c = search rules
 
-loop-again : tie.Need-loop-preserved invariant-loop decreases-loop
+loop-again : tie.Need-loop-k-preserved invariant-loop decreases-loop
 loop-again c =
-    let l = c.before.before.loop in (
+    let l = c.loop-k in (
       omega arith,
       length-set l.words l.k _ ∙ l.invariant.1,
       loaded-turn 8 0 _ l.words l.k l.invariant.2 (omega (arith, l.invariant.1)) c.load64.ensures (omega arith),
@@ -47,12 +47,12 @@ loop-again c =
 
 returns : tie.Need-returns invariant-loop decreases-loop
 returns c =
-    let l = c.before.loop in
-    let e : l.k ≡ c.before.before.before.args.n = omega arith in
+    let l = c.loop-k in
+    let e : l.k ≡ c.args.n = omega arith in
     (l.invariant.1, rw e at l.invariant.2)
 
-pub load-words-spec : {M : Type 1} → statement M
-load-words-spec =
+pub load_words_spec : {M : Type 1} → statement M
+load_words_spec =
     tie.close
     (tie.spec
     invariant-loop

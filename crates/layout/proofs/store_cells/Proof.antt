@@ -11,51 +11,51 @@ use borrow.Author.Rules.{rules}
 use Rattle.layout.proofs.store_cells.Statement.{statement}
 use Rattle.layout.proofs.store_cells.Tie as tie
 
-abbrev invariant-loop : tie.invariant-loop
+abbrev invariant-loop : tie.invariant-loop-k
 invariant-loop bytes₀ cells k₀ bytes k = (k ≤ 256) × (length bytes ≡ length bytes₀) × (bytes ≡ sets bytes₀ 0 (bytes_of_all 4 (take k cells)))
 
-abbrev decreases-loop : tie.decreases-loop
+abbrev decreases-loop : tie.decreases-loop-k
 decreases-loop bytes₀ cells k₀ bytes k = 256 - k
 
-loop-holds : tie.Need-loop-init invariant-loop decreases-loop
+loop-holds : tie.Need-loop-k-init invariant-loop decreases-loop
 loop-holds c = (omega arith, refl, stored-none 4 _ 0)
 
-mul-store32 : tie.Need-overflow-mul-store32 invariant-loop decreases-loop
+mul-store32 : tie.Need-overflow_mul-k invariant-loop decreases-loop
 mul-store32 c = search rules
 
-mul-store32-2 : tie.Need-overflow-mul-store32-2 invariant-loop decreases-loop
+mul-store32-2 : tie.Need-offset_bounds-cells-k invariant-loop decreases-loop
 mul-store32-2 c = search rules
 
-shared-slice-read-store32 : tie.Need-shared-slice-read-store32 invariant-loop decreases-loop
+shared-slice-read-store32 : tie.Need-bounds-cells-k invariant-loop decreases-loop
 shared-slice-read-store32 c = search rules
 
 store32-requires : tie.Need-store32-requires invariant-loop decreases-loop
 store32-requires c κs = search rules
 
-add-k : tie.Need-overflow-add-k invariant-loop decreases-loop
+add-k : tie.Need-overflow_add-k invariant-loop decreases-loop
 add-k c = search rules
 
-loop-less : tie.Need-loop-smaller invariant-loop decreases-loop
+loop-less : tie.Need-loop-k-smaller invariant-loop decreases-loop
 loop-less c = search rules
 
-loop-again : tie.Need-loop-preserved invariant-loop decreases-loop
+loop-again : tie.Need-loop-k-preserved invariant-loop decreases-loop
 loop-again c =
-    let l = c.before.before.before.before.before.before.loop in
-    let s = c.before.before.before.before.before.before.before.before.before in
-    let stored = c.before.before.store32 in (
+    let l = c.loop-k in
+    let s = c in
+    let stored = c.store32 in (
       omega arith,
-      stored.auto.0 ∙ l.invariant.1,
+      stored.auto.s ∙ l.invariant.1,
       stored-turn 4 0 _ l.bytes s.args.cells.now l.k l.invariant.2 (omega arith) stored.ensures (omega arith) refl,
     )
 
-same_length : tie.Need-same-length invariant-loop decreases-loop
+same_length : tie.Need-shape_of-bytes invariant-loop decreases-loop
 same_length c = search rules
 
 returns : tie.Need-returns invariant-loop decreases-loop
-returns c = stored-done 4 0 _ _ c.before.loop.k c.before.loop.invariant.2 c.before.before.before.before.requires.1 (omega arith)
+returns c = stored-done 4 0 _ _ c.loop-k.k c.loop-k.invariant.2 c.requires.1 (omega arith)
 
-pub store-cells-spec : {M : Type 1} → statement M
-store-cells-spec =
+pub store_cells_spec : {M : Type 1} → statement M
+store_cells_spec =
     tie.close
     (tie.spec
     invariant-loop

@@ -12,48 +12,48 @@ use borrow.Author.Rules.{rules}
 use Rattle.layout.proofs.store_marks.Statement.{statement}
 use Rattle.layout.proofs.store_marks.Tie as tie
 
-abbrev invariant-loop : tie.invariant-loop
+abbrev invariant-loop : tie.invariant-loop-k
 invariant-loop bytes₀ marks k₀ bytes k = (k ≤ 256) × (length bytes ≡ length bytes₀) × (bytes ≡ sets bytes₀ 1024 (bytes_of_all 1 (take k marks)))
 
-abbrev decreases-loop : tie.decreases-loop
+abbrev decreases-loop : tie.decreases-loop-k
 decreases-loop bytes₀ marks k₀ bytes k = 256 - k
 
-loop-holds : tie.Need-loop-init invariant-loop decreases-loop
+loop-holds : tie.Need-loop-k-init invariant-loop decreases-loop
 loop-holds c = (omega arith, refl, stored-none 1 _ 1024)
 
-shared-slice-read-bytes : tie.Need-shared-slice-read-bytes invariant-loop decreases-loop
+shared-slice-read-bytes : tie.Need-bounds-marks-k invariant-loop decreases-loop
 shared-slice-read-bytes c = search rules
 
-add-bytes : tie.Need-overflow-add-bytes invariant-loop decreases-loop
+add-bytes : tie.Need-overflow_add-bytes invariant-loop decreases-loop
 add-bytes c = search rules
 
-slice-write-bytes : tie.Need-slice-write-bytes invariant-loop decreases-loop
+slice-write-bytes : tie.Need-bounds-bytes-k invariant-loop decreases-loop
 slice-write-bytes c = search rules
 
-add-k : tie.Need-overflow-add-k invariant-loop decreases-loop
+add-k : tie.Need-overflow_add-k invariant-loop decreases-loop
 add-k c = search rules
 
-loop-less : tie.Need-loop-smaller invariant-loop decreases-loop
+loop-less : tie.Need-loop-k-smaller invariant-loop decreases-loop
 loop-less c = search rules
 
-loop-again : tie.Need-loop-preserved invariant-loop decreases-loop
+loop-again : tie.Need-loop-k-preserved invariant-loop decreases-loop
 loop-again c =
-    let l = c.before.before.loop in
-    let s = c.before.before.before in (
+    let l = c.loop-k in
+    let s = c in (
       omega arith,
       length-set l.bytes (1024 + l.k) _ ∙ l.invariant.1,
       stored-turn 1 1024 _ l.bytes s.args.marks.now l.k l.invariant.2 (omega arith)
-          (sym (store-one l.bytes (1024 + l.k) _ (omega (arith, c.shared-slice-known.given l.k)))) (omega arith) refl,
+          (sym (store-one l.bytes (1024 + l.k) _ (omega (arith, c.shared_slice_known-1.given l.k)))) (omega arith) refl,
     )
 
-same_length : tie.Need-same-length invariant-loop decreases-loop
+same_length : tie.Need-shape_of-bytes invariant-loop decreases-loop
 same_length c = search rules
 
 returns : tie.Need-returns invariant-loop decreases-loop
-returns c = stored-done 1 1024 _ _ c.before.loop.k c.before.loop.invariant.2 c.before.before.requires.1 (omega arith)
+returns c = stored-done 1 1024 _ _ c.loop-k.k c.loop-k.invariant.2 c.requires.1 (omega arith)
 
-pub store-marks-spec : {M : Type 1} → statement M
-store-marks-spec =
+pub store_marks_spec : {M : Type 1} → statement M
+store_marks_spec =
     tie.close
     (tie.spec
     invariant-loop

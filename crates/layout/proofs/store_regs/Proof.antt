@@ -29,24 +29,24 @@ store32-requires-7 c κs = search rules
 store32-requires-8 : tie.Need-store32-requires-8
 store32-requires-8 c κs = search rules
 
-same_length : tie.Need-same-length
+same_length : tie.Need-shape_of-bytes
 same_length c = search rules
 
 returns : tie.Need-returns
 returns c =
-    let s8 = c.before.before in
-    let s7 = s8.before.before.before.before in
-    let s6 = s7.before.before.before.before in
-    let s5 = s6.before.before.before.before in
-    let s4 = s5.before.before.before.before in
-    let s3 = s4.before.before.before.before in
-    let s2 = s3.before.before.before.before in
-    let s1 = s2.before.before.before.before in
-    regs-stored c.before.before.before.before.before.before.before.before.before.before.before.before.before.before.before.before.before.before.before.before.before.before.before.before.before.before.before.before.before.before.before.before.before.args.r _ s1.store32.ensures s2.store322.ensures s3.store323.ensures s4.store324.ensures s5.store325.ensures
-    s6.store326.ensures s7.store327.ensures s8.store328.ensures
+    let s8 = c in
+    let s7 = s8 in
+    let s6 = s7 in
+    let s5 = s6 in
+    let s4 = s5 in
+    let s3 = s4 in
+    let s2 = s3 in
+    let s1 = s2 in
+    regs-stored c.args.r _ s1.store32.ensures s2.store32-2.ensures s3.store32-3.ensures s4.store32-4.ensures s5.store32-5.ensures
+    s6.store32-6.ensures s7.store32-7.ensures s8.store32-8.ensures
 
-pub store-regs-spec : {M : Type 1} → statement M
-store-regs-spec =
+pub store_regs_spec : {M : Type 1} → statement M
+store_regs_spec =
     tie.close
     (tie.spec
     store32-requires

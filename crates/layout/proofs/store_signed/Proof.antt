@@ -13,58 +13,58 @@ use borrow.Author.Rules.{rules}
 use Rattle.layout.proofs.store_signed.Statement.{statement}
 use Rattle.layout.proofs.store_signed.Tie as tie
 
-abbrev invariant-loop : tie.invariant-loop
+abbrev invariant-loop : tie.invariant-loop-k
 invariant-loop bytes₀ at values n k₀ bytes k = (k ≤ n) × (length bytes ≡ length bytes₀) × (bytes ≡ sets bytes₀ at (bytes_of_all 4 (take k (map bits_of values))))
 
-abbrev decreases-loop : tie.decreases-loop
+abbrev decreases-loop : tie.decreases-loop-k
 decreases-loop bytes₀ at values n k₀ bytes k = n - k
 
-loop-holds : tie.Need-loop-init invariant-loop decreases-loop
+loop-holds : tie.Need-loop-k-init invariant-loop decreases-loop
 loop-holds c = (omega arith, refl, stored-none 4 _ _)
 
-mul-store32 : tie.Need-overflow-mul-store32 invariant-loop decreases-loop
+mul-store32 : tie.Need-overflow_mul-k invariant-loop decreases-loop
 mul-store32 c = search rules
 
-add-store32 : tie.Need-overflow-add-store32 invariant-loop decreases-loop
+add-store32 : tie.Need-overflow_add-at invariant-loop decreases-loop
 add-store32 c = search rules
 
-mul-to-bits : tie.Need-overflow-mul-to-bits invariant-loop decreases-loop
+mul-to-bits : tie.Need-offset_bounds-values-k invariant-loop decreases-loop
 mul-to-bits c = search rules
 
-shared-slice-copy-out-to-bits : tie.Need-shared-slice-copy-out-to-bits invariant-loop decreases-loop
+shared-slice-copy-out-to-bits : tie.Need-bounds-values-k invariant-loop decreases-loop
 shared-slice-copy-out-to-bits c = search rules
 
-to-bits-requires : tie.Need-to-bits-requires invariant-loop decreases-loop
+to-bits-requires : tie.Need-to_bits-requires invariant-loop decreases-loop
 to-bits-requires c κs = search rules
 
 store32-requires : tie.Need-store32-requires invariant-loop decreases-loop
 store32-requires c κs = search rules
 
-add-k : tie.Need-overflow-add-k invariant-loop decreases-loop
+add-k : tie.Need-overflow_add-k invariant-loop decreases-loop
 add-k c = search rules
 
-loop-less : tie.Need-loop-smaller invariant-loop decreases-loop
+loop-less : tie.Need-loop-k-smaller invariant-loop decreases-loop
 loop-less c = search rules
 
-loop-again : tie.Need-loop-preserved invariant-loop decreases-loop
+loop-again : tie.Need-loop-k-preserved invariant-loop decreases-loop
 loop-again c =
-    let l = c.before.before.before.before.before.before.before.loop in
-    let vs = c.before.before.before.before.before.before.before.before.before.args.values.now in
-    let stored = c.before.before.store32 in (
+    let l = c.loop-k in
+    let vs = c.args.values.now in
+    let stored = c.store32 in (
       omega arith,
-      stored.auto.0 ∙ l.invariant.1,
+      stored.auto.s ∙ l.invariant.1,
       stored-turn 4 _ _ l.bytes (map bits_of vs) l.k l.invariant.2 (omega (arith, length-map vs bits_of)) stored.ensures (omega arith)
-          (pattern-at vs l.k c.before.before.before.to-bits.ensures (record { sfits = c.before.before.before.before.to-bits-arg.given })),
+          (pattern-at vs l.k c.to_bits.ensures (record { sfits = c.to_bits-arg-1.given })),
     )
 
-same_length : tie.Need-same-length invariant-loop decreases-loop
+same_length : tie.Need-shape_of-bytes invariant-loop decreases-loop
 same_length c = search rules
 
 returns : tie.Need-returns invariant-loop decreases-loop
-returns c = signed-done _ _ _ c.before.loop.k c.before.before.before.args.n c.before.loop.invariant.2 (omega arith)
+returns c = signed-done _ _ _ c.loop-k.k c.args.n c.loop-k.invariant.2 (omega arith)
 
-pub store-signed-spec : {M : Type 1} → statement M
-store-signed-spec =
+pub store_signed_spec : {M : Type 1} → statement M
+store_signed_spec =
     tie.close
     (tie.spec
     invariant-loop

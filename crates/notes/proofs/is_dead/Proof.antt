@@ -9,35 +9,35 @@ use borrow.Author.Rules.{rules}
 use Rattle.notes.proofs.is_dead.Statement.{statement}
 use Rattle.notes.proofs.is_dead.Tie as tie
 
-slice-aggregate-analyse : tie.Need-slice-aggregate-analyse
+slice-aggregate-analyse : tie.Need-slice_bounds-analyse-end
 slice-aggregate-analyse c = search rules
 
-slice-aggregate-analyse-2 : tie.Need-slice-aggregate-analyse-2
+slice-aggregate-analyse-2 : tie.Need-slice_bounds-analyse-end-2
 slice-aggregate-analyse-2 c = search rules
 
-analyse-requires : tie.Need-analyse-requires
+analyse-requires : tie.Need-analyse-answer-requires
 analyse-requires c κs = search rules
 
-slice-aggregate-load : tie.Need-slice-aggregate-load
+slice-aggregate-load : tie.Need-slice_bounds-load-end
 slice-aggregate-load c = search rules
 
-number-of-requires : tie.Need-number-of-requires
+number-of-requires : tie.Need-number_of-requires
 number-of-requires c κs = search rules
 
-mul-load : tie.Need-overflow-mul-load
-mul-load c = omega (arith, c.number_of.ensures.0, (accepted _ (sym c.before.before.before.before.before.before.before.before.requires.0.accepted)).few)
+mul-load : tie.Need-overflow_mul-number_of
+mul-load c = omega (arith, c.number_of.ensures.0, (accepted _ (sym c.requires.0.accepted)).few)
 
 load-requires : tie.Need-load-requires
-load-requires c κs = omega (arith, c.number_of.ensures.0, (accepted _ (sym c.before.before.before.before.before.before.before.before.requires.0.accepted)).few, dead-size c.before.before.before.before.before.before.before.before.requires.0 refl refl c.before.before.before.before.analyse.ensures)
+load-requires c κs = omega (arith, c.number_of.ensures.0, (accepted _ (sym c.requires.0.accepted)).few, dead-size c.requires.0 refl refl c.analyse-answer.ensures)
 
 contains-requires : tie.Need-contains-requires
 contains-requires c κs = search rules
 
 returns : tie.Need-returns
-returns c = dead-told c.before.before.before.before.before.before.before.before.before.before.requires.0 refl refl c.before.before.before.before.before.before.analyse.ensures c.before.before.number_of.ensures.0 c.before.before.number_of.ensures.1 (omega (arith, c.before.before.before.before.before.before.before.before.before.before.ranges.cell)) c.before.before.before.before.before.before.before.before.before.before.requires.2 c.before.load.ensures c.contains.ensures
+returns c = dead-told c.requires.0 refl refl c.analyse-answer.ensures c.number_of.ensures.0 c.number_of.ensures.1 (omega (arith, c.ranges.cell)) c.requires.2 c.load.ensures c.contains.ensures
 
-pub is-dead-spec : {M : Type 1} → statement M
-is-dead-spec =
+pub is_dead_spec : {M : Type 1} → statement M
+is_dead_spec =
     tie.close
     (tie.spec
     slice-aggregate-analyse

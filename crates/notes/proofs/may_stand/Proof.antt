@@ -8,29 +8,29 @@ use borrow.Author.Rules.{rules}
 use Rattle.notes.proofs.may_stand.Statement.{statement}
 use Rattle.notes.proofs.may_stand.Tie as tie
 
-kind-of-requires : tie.Need-kind-of-requires
+kind-of-requires : tie.Need-kind_of-requires
 kind-of-requires c κs = search rules
 
-record-at-requires : tie.Need-record-at-requires
-record-at-requires c κs = let l = chip-length _ _ c.before.before.before.requires.1.size in ((bytes_of c.before.before.before.requires.1).2, l.most, l.some, l.few, c.kind-of.ensures.1)
+record-at-requires : tie.Need-record_at-cell-requires
+record-at-requires c κs = let l = chip-length _ _ c.requires.1.size in ((bytes_of c.requires.1).2, l.most, l.some, l.few, c.kind_of.ensures.1)
 
-returns : tie.Need-returns
-returns c = none_told c.before.before.before.before.before.requires.1 (cell-found c.before.before.before.before.before.requires.1 c.before.before.kind-of.ensures.0 c.before.record-at.ensures) c.if1.true
+returns : tie.Need-returns-then-cell-eq-NO_CELL
+returns c = none_told c.requires.1 (cell-found c.requires.1 c.kind_of.ensures.0 c.record_at-cell.ensures) c.if-cell-eq-NO_CELL.true
 
-sub-is-dead : tie.Need-overflow-sub-is-dead
-sub-is-dead c = let s = stands c.before.before.before.before.before.requires.1 (cell-found c.before.before.before.before.before.requires.1 c.before.before.kind-of.ensures.0 c.before.record-at.ensures) c.if1.false in (checkpoint-starts c.before.before.before.before.before.requires.1 s.1 c.before.before.before.before.before.requires.0).0
+sub-is-dead : tie.Need-overflow_sub-place
+sub-is-dead c = let s = stands c.requires.1 (cell-found c.requires.1 c.kind_of.ensures.0 c.record_at-cell.ensures) c.if-cell-eq-NO_CELL.false in (checkpoint-starts c.requires.1 s.1 c.requires.0).0
 
-cast-is-dead : tie.Need-overflow-cast-is-dead
-cast-is-dead c = omega (arith, (stands c.before.before.before.before.before.requires.1 (cell-found c.before.before.before.before.before.requires.1 c.before.before.kind-of.ensures.0 c.before.record-at.ensures) c.if1.false).0)
+cast-is-dead : tie.Need-overflow_cast-cell
+cast-is-dead c = omega (arith, (stands c.requires.1 (cell-found c.requires.1 c.kind_of.ensures.0 c.record_at-cell.ensures) c.if-cell-eq-NO_CELL.false).0)
 
-is-dead-requires : tie.Need-is-dead-requires
-is-dead-requires c κs = let s = stands c.before.before.before.before.before.requires.1 (cell-found c.before.before.before.before.before.requires.1 c.before.before.kind-of.ensures.0 c.before.record-at.ensures) c.if1.false in (c.before.before.before.before.before.requires.0, (checkpoint-starts c.before.before.before.before.before.requires.1 s.1 c.before.before.before.before.before.requires.0).1, cell-exists c.before.before.before.before.before.requires.1 s.1)
+is-dead-requires : tie.Need-is_dead-requires
+is-dead-requires c κs = let s = stands c.requires.1 (cell-found c.requires.1 c.kind_of.ensures.0 c.record_at-cell.ensures) c.if-cell-eq-NO_CELL.false in (c.requires.0, (checkpoint-starts c.requires.1 s.1 c.requires.0).1, cell-exists c.requires.1 s.1)
 
-returns-2 : tie.Need-returns-2
-returns-2 c = let s = stands c.before.before.before.before.before.before.requires.1 (cell-found c.before.before.before.before.before.before.requires.1 c.before.before.before.kind-of.ensures.0 c.before.before.record-at.ensures) c.before.if1.false in place-told c.before.before.before.before.before.before.requires.1 s.1 c.is-dead.result c.is-dead.ensures
+returns-2 : tie.Need-returns
+returns-2 c = let s = stands c.requires.1 (cell-found c.requires.1 c.kind_of.ensures.0 c.record_at-cell.ensures) c.if-cell-eq-NO_CELL.false in place-told c.requires.1 s.1 c.is_dead.result c.is_dead.ensures
 
-pub may-stand-spec : {M : Type 1} → statement M
-may-stand-spec =
+pub may_stand_spec : {M : Type 1} → statement M
+may_stand_spec =
     tie.close
     (tie.spec
     kind-of-requires

@@ -7,29 +7,29 @@ use borrow.Author.Rules.{rules}
 use Rattle.notes.proofs.spent.Statement.{statement}
 use Rattle.notes.proofs.spent.Tie as tie
 
-blank-requires : tie.Need-blank-requires
+blank-requires : tie.Need-blank-table-requires
 blank-requires c κs = search rules
 
 examine-requires : tie.Need-examine-requires
-examine-requires c κs = c.before.blank.ensures
+examine-requires c κs = c.blank-table.ensures
 
-enum-known-number : tie.Need-enum-known-number
+enum-known-number : tie.Need-enum_known-number
 enum-known-number c = search rules
 
-enum_told : tie.Need-enum-told
+enum_told : tie.Need-enum_told-1
 enum_told c = search rules
 
-spent-legal-requires : tie.Need-spent-legal-requires
-spent-legal-requires c κs = let told = c.before.enum_told.given.1 in let answer = c.before.before.before.examine.ensures in (legal (sym told ∙ answer.checks.is), answer.places _ _ _ told)
+spent-legal-requires : tie.Need-spent_legal-requires
+spent-legal-requires c κs = let told = c.in-Program.is in let answer = c.examine.ensures in (legal (sym told ∙ answer.checks.is), answer.places _ _ _ told)
 
-returns : tie.Need-returns
-returns c = by-program _ (rw c.before.number.given.1 at c.before.before.before.examine.ensures.checks)
+returns : tie.Need-returns-in-Refused
+returns c = by-program _ (rw c.in-Refused.is at c.examine.ensures.checks)
 
-returns-2 : tie.Need-returns-2
+returns-2 : tie.Need-returns-in-Program
 returns-2 c = search rules
 
-pub spent-spec : {M : Type 1} → statement M
-spent-spec =
+pub spent_spec : {M : Type 1} → statement M
+spent_spec =
     tie.close
     (tie.spec
     blank-requires
