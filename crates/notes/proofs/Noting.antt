@@ -234,6 +234,7 @@ module _ (note : List ℕ) (four : length note ≡ 4) (few : (k : ℕ) → get_o
 
 -- each record stands where it stood
 notes-record : {S : ℕ → Type 0} {rs rs' : List Saved} → NotedRecords S rs rs' → {c at from : ℕ} → RecordAt c at from rs → RecordAt c at from rs'
+notes-record NotedRecords.none r = elim r [ ]
 notes-record (NotedRecords.same t) (RecordAt.here i e) = RecordAt.here i e
 notes-record (NotedRecords.same t) (RecordAt.later h) = RecordAt.later (notes-record t h)
 notes-record (NotedRecords.changed d v l t) (RecordAt.here i e) = RecordAt.here i e
@@ -244,6 +245,7 @@ save-length : (G : Format) (s : Checkpoint) (rs : List Saved) → length rs ≡ 
 save-length G s rs e = padded-length G (record { records = rs; commit = s.commit }) ∙ ap (filled_of G.page) (image-same G s rs e) ∙ sym (padded-length G s)
 
 notes-stand : {S : ℕ → Type 0} {G : Format} {js js' : List Checkpoint} → NotedSaves S js js' → {c at from : ℕ} → ValueAt G c at from js → ValueAt G c at from js'
+notes-stand NotedSaves.none v = elim v [ ]
 notes-stand (NotedSaves.save t ts) (ValueAt.within h) = ValueAt.within (notes-record t h)
 notes-stand {G = G} (NotedSaves.save {s} {rs} {js} {js'} t ts) {c} {at} {from} (ValueAt.behind h) =
     ValueAt.behind (subst (λ (n : ℕ). ValueAt G c at (from + n) js') (sym (save-length G s rs (notes-length t))) (notes-stand ts h))

@@ -81,16 +81,19 @@ value-one (ValueAt.behind v) (ValueAt.behind w) = value-one v w
 
 -- its cell exists
 record-exists : {n c at from : ℕ} {rs : List Saved} → Once n rs → RecordAt c at from rs → c < n
+record-exists Once.none r = elim r [ ]
 record-exists (Once.one small fit a o) (RecordAt.here e b) = omega arith
 record-exists (Once.one small fit a o) (RecordAt.later v) = record-exists o v
 
 value-exists : (F : Facts) {G : Format} {b : Commit} {c at from : ℕ} {js : List Checkpoint} → Rising F b js → ValueAt G c at from js → c < F.cells
+value-exists F Rising.none v = elim v [ ]
 value-exists F (Rising.one h r) (ValueAt.within v) = record-exists h.once v
 value-exists F (Rising.one h r) (ValueAt.behind v) = value-exists F r v
 
 -- where there is one, the last save has the offset after a CHECKPOINT
 value-place : {F : Facts} {G : Format} {b : Commit} {c at from : ℕ} {js : List Checkpoint} → Rising F b js → ValueAt G c at from js → F.place (last_of b js).place ≡ true
 unfolding last_of
+value-place Rising.none v = elim v [ ]
 value-place (Rising.one h r) v = last-place h.after.place_is r
 
 -- ---- the place

@@ -73,7 +73,7 @@ fold-older-requires c κs =
     let told = c in
     let found = told in
     let s = (start (long found.before.before.before)).args in
-    damaged-length (answers found.before.before.before) (plan found.before.before.before) s.new-1.now s.stored s.budget (fits found.before.before.before) told.in-Damaged.is
+    damaged-length (answers found.before.before.before) (plan found.before.before.before) s.new.now s.stored s.budget (fits found.before.before.before) told.in-Damaged.is
 
 enum-known-answer : tie.Need-enum_known-answer
 enum-known-answer c = search rules
@@ -83,7 +83,7 @@ returns-3 c =
     let told = c in
     let found = told in
     let s = (start (long found.before.before.before)).args in
-    refused-owner (answers found.before.before.before) (plan found.before.before.before) s.new-1.now s.stored s.budget (fits found.before.before.before) told.in-Found.is c.if-not-own.true (omega arith)
+    refused-owner (answers found.before.before.before) (plan found.before.before.before) s.new.now s.stored s.budget (fits found.before.before.before) told.in-Found.is c.if-not-own.true (omega arith)
 
 fold-found-requires : tie.Need-fold_found-requires
 fold-found-requires c κs = search rules
@@ -92,7 +92,7 @@ returns-4 : tie.Need-returns-in-BadLength
 returns-4 c =
     let found = c in
     let s = (start (long found.before.before)).args in
-    refused-old (answers found.before.before) (plan found.before.before) s.new-1.now s.stored s.budget (fits found.before.before) c.in-BadLength.is (omega arith)
+    refused-old (answers found.before.before) (plan found.before.before) s.new.now s.stored s.budget (fits found.before.before) c.in-BadLength.is (omega arith)
 
 same_length : tie.Need-shape_of-new-in-Damaged
 same_length c = search rules
@@ -102,7 +102,7 @@ returns-5 c =
     let told = c in
     let found = told in
     let s = (start (long found.before.before.before.before.before.before)).args in
-    folded-older (answers found.before.before.before.before.before.before) (plan found.before.before.before.before.before.before) s.new-1.now s.stored s.budget (fits found.before.before.before.before.before.before) told.in-Damaged.is found.byte_at-highest.ensures
+    folded-older (answers found.before.before.before.before.before.before) (plan found.before.before.before.before.before.before) s.new.now s.stored s.budget (fits found.before.before.before.before.before.before) told.in-Damaged.is found.byte_at-highest.ensures
     c.fold_older.ensures
 
 same-length-2 : tie.Need-shape_of-new-else-not-own
@@ -114,7 +114,7 @@ returns-6 c =
     let told = own in
     let found = told in
     let s = (start (long found.before.before.before.before.before.before.before.before)).args in
-    folded (answers found.before.before.before.before.before.before.before.before) (plan found.before.before.before.before.before.before.before.before) s.new-1.now s.stored s.budget (fits found.before.before.before.before.before.before.before.before) told.in-Found.is own.if-not-own.false
+    folded (answers found.before.before.before.before.before.before.before.before) (plan found.before.before.before.before.before.before.before.before) s.new.now s.stored s.budget (fits found.before.before.before.before.before.before.before.before) told.in-Found.is own.if-not-own.false
     c.fold_found.ensures
 
 pub fold_legal_spec : {M : Type 1} → statement M

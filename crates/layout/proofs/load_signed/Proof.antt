@@ -4,6 +4,7 @@ use mathlib.Core.Path.{◌≡◌, refl, ◌∙◌}
 use Prim.Native.Nat.{◌-◌, ◌≤◌}
 use native.Mathlib.Omega.{arith}
 use mir.Facts.{to_z-of_z}
+use mir.Syntax.{w32}
 use lib.ListN.{length, take, length-set}
 use Rattle.layout.specs.Numbers.{signed_from}
 use Rattle.layout.proofs.Turning.{signed-none, signed-turn}
@@ -50,7 +51,7 @@ loop-again c =
       omega arith,
       length-set l.values l.k _ ∙ l.invariant.1,
       signed-turn _ _ l.values l.k l.invariant.2 (omega (arith, l.invariant.1)) c.load32.ensures (omega arith)
-          (to_z-of_z (record { sfits = c.from_bits.type_inv }) ∙ c.from_bits.ensures),
+          (to_z-of_z {w = w32} (record { sfits = c.from_bits.type_inv }) ∙ c.from_bits.ensures),
     )
 
 same_length : tie.Need-shape_of-values invariant-loop decreases-loop

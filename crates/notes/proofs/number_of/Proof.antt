@@ -19,7 +19,7 @@ abbrev decreases-loop : tie.decreases-loop-here
 decreases-loop program o lengths here₀ number₀ here number = o - here
 
 -- the offset lies before the end, and few instructions before it
-within : (c : tie.After-shared_slice_known-in-loop-here-1 invariant-loop decreases-loop) →
+within : (c : tie.After-shared_slice_known-in-loop-here-1-unread invariant-loop decreases-loop) →
     c.loop-here.here < length c.args.program.now
 within c =
     let s = c in
@@ -33,7 +33,7 @@ long : (c : tie.After-length_in-here invariant-loop decreases-loop) →
     (0 < n) × (l.here + n ≤ length c.args.program.now)
 long c =
     let l = c.loop-here in
-    left_here _ l.invariant (within c.before) (λ f q. whole_by _ _ c.length_in-here.ensures (sound-next _ _ _ q.sound).0)
+    left_here _ l.invariant (within (record { before = c.before.before; shared_slice_known-in-loop-here-1 = record { given = c.shared_slice_known-in-loop-here-1.given } })) (λ f q. whole_by _ _ c.length_in-here.ensures (sound-next _ _ _ q.sound).0)
 
 length-table-requires : tie.Need-length_table-lengths-requires invariant-loop decreases-loop
 length-table-requires c κs = search rules
@@ -51,13 +51,13 @@ add-here : tie.Need-overflow_add-here invariant-loop decreases-loop
 add-here c = omega (arith, long c)
 
 add-number : tie.Need-overflow_add-number invariant-loop decreases-loop
-add-number c = left_here _ c.loop-here.invariant (within c.before) (λ f q. omega (arith, q.count, (accepted _ (sym c.requires.0.accepted)).few))
+add-number c = left_here _ c.loop-here.invariant (within (record { before = c.before.before; shared_slice_known-in-loop-here-1 = record { given = c.shared_slice_known-in-loop-here-1.given } })) (λ f q. omega (arith, q.count, (accepted _ (sym c.requires.0.accepted)).few))
 
 loop-less : tie.Need-loop-here-smaller invariant-loop decreases-loop
 loop-less c = omega (arith, long c, c.loop-here-test.true)
 
 loop-again : tie.Need-loop-here-preserved invariant-loop decreases-loop
-loop-again c = left-turn _ c.loop-here.invariant (within c.before) c.length_in-here.ensures (long c).0 (λ f q. numbering-turn q c.loop-here-test.true)
+loop-again c = left-turn _ c.loop-here.invariant (within (record { before = c.before.before; shared_slice_known-in-loop-here-1 = record { given = c.shared_slice_known-in-loop-here-1.given } })) c.length_in-here.ensures (long c).0 (λ f q. numbering-turn q c.loop-here-test.true)
 
 returns : tie.Need-returns invariant-loop decreases-loop
 returns c = numbering-done _ _ c.loop-here.invariant.holds c.loop-here-test.false
