@@ -3,6 +3,8 @@
 // by value, and store back the state that these return. Proved of each, for any state and any buffers: the
 // state at exit, the journal, the outputs and the answer are those that the definitions of `run` and
 // `recovery` make of the state at entry, `CallIs` and `RecoverIs`, the same that the functions by value meet.
+#![tactic(auto)]
+
 ghost use Rattle.step.specs.State.{env_of, machine_of};
 ghost use Rattle.run.specs.Run.{outcome, CallIs};
 ghost use Rattle.recovery.specs.Recover.{RecoverIs};

@@ -83,7 +83,7 @@ value-one (ValueAt.behind v) (ValueAt.behind w) = value-one v w
 record-exists : {n c at from : ℕ} {rs : List Saved} → Once n rs → RecordAt c at from rs → c < n
 record-exists Once.none r = elim r [ ]
 record-exists (Once.one small fit a o) (RecordAt.here e b) = omega arith
-record-exists (Once.one small fit a o) (RecordAt.later v) = record-exists o v
+record-exists {from = from} (Once.one small fit a o) (RecordAt.later v) = record-exists {from = from + 6} o v
 
 value-exists : (F : Facts) {G : Format} {b : Commit} {c at from : ℕ} {js : List Checkpoint} → Rising F b js → ValueAt G c at from js → c < F.cells
 value-exists F Rising.none v = elim v [ ]

@@ -1,6 +1,8 @@
 // A run over readings and outputs of any length: stretches of a fixed size are decoded into local
 // buffers and handed to the machine, each from the next untaken reading on, and are together the one
 // run over all (proofs/Stretches.antt).
+#![tactic(auto)]
+
 ghost use Rattle.std.specs.Prelude.{◌≡◌, ◌+◌, ◌-◌, ◌/◌, ◌≤◌, ◌<◌, length};
 ghost use Rattle.program.specs.Places.{Places};
 ghost use Rattle.step.specs.State.{env_of, machine_of};

@@ -7,85 +7,85 @@ use borrow.Author.Rules.{rules}
 use Rattle.stretches.proofs.stretch.Statement.{statement}
 use Rattle.stretches.proofs.stretch.Tie as tie
 
-sub-left : tie.Need-overflow-sub-left
+sub-left : tie.Need-overflow_sub-left
 sub-left c = search rules
 
-sub-at-most : tie.Need-overflow-sub-at-most
+sub-at-most : tie.Need-overflow_sub-readings
 sub-at-most c = search rules
 
-at-most-requires : tie.Need-at-most-requires
+at-most-requires : tie.Need-at_most-n-requires
 at-most-requires c κs = search rules
 
-sub-at-most-2 : tie.Need-overflow-sub-at-most-2
+sub-at-most-2 : tie.Need-overflow_sub-outputs
 sub-at-most-2 c = search rules
 
-at-most-requires-2 : tie.Need-at-most-requires-2
+at-most-requires-2 : tie.Need-at_most-m-requires
 at-most-requires-2 c κs = search rules
 
-mul-load-signed : tie.Need-overflow-mul-load-signed
+mul-load-signed : tie.Need-overflow_mul-b
 mul-load-signed c =
-    let start = c.before.before.before.before.before.before.before.before.before.before.before in
-    omega (arith, start.requires.6.taken, start.well-formed)
+    let start = c in
+    omega (arith, start.requires.6.taken, start.well_formed)
 
-load-signed-requires : tie.Need-load-signed-requires
+load-signed-requires : tie.Need-load_signed-requires
 load-signed-requires c κs =
-    let n = c.before.before.before.before.at_most.ensures in
-    let start = c.before.before.before.before.before.before.before.before.before.before.before.before in
+    let n = c.at_most-n.ensures in
+    let start = c in
     (n.1, omega (arith, n.0.within, start.requires.6.taken))
 
-slice-reshare-prefix-run-in-place : tie.Need-slice-reshare-prefix-run-in-place
+slice-reshare-prefix-run-in-place : tie.Need-slice_bounds-run_in_place-end
 slice-reshare-prefix-run-in-place c = search rules
 
-slice-aggregate-run-in-place : tie.Need-slice-aggregate-run-in-place
-slice-aggregate-run-in-place c = cut _ _ _ c.before.before.before.before.before.before.before.before.before.before.at_most.ensures.1 c.before.before.before.before.before.load_signed.auto.1.1.0
+slice-aggregate-run-in-place : tie.Need-slice_bounds-run_in_place-end-2
+slice-aggregate-run-in-place c = cut _ _ _ c.at_most-n.ensures.1 c.load_signed.auto.values
 
-slice-relend-prefix-run-in-place : tie.Need-slice-relend-prefix-run-in-place
+slice-relend-prefix-run-in-place : tie.Need-slice_bounds-run_in_place-end-3
 slice-relend-prefix-run-in-place c = search rules
 
-slice-aggregate-run-in-place-2 : tie.Need-slice-aggregate-run-in-place-2
-slice-aggregate-run-in-place-2 c = cut _ _ _ c.before.before.before.before.before.before.before.before.before.at-most2.ensures.1 refl
+slice-aggregate-run-in-place-2 : tie.Need-slice_bounds-run_in_place-end-4
+slice-aggregate-run-in-place-2 c = cut _ _ _ c.at_most-m.ensures.1 refl
 
-run-in-place-requires : tie.Need-run-in-place-requires
+run-in-place-requires : tie.Need-run_in_place-ran-requires
 run-in-place-requires c κs =
-    let start = c.before.before.before.before.before.before.before.before.before.before.before.before.before.before.before.before.before.before.before in
+    let start = c in
     (start.requires.0, start.requires.1, start.requires.2, start.requires.3)
 
-mul-store-signed : tie.Need-overflow-mul-store-signed
+mul-store-signed : tie.Need-overflow_mul-b-2
 mul-store-signed c =
-    let start = c.before.before.before.before.before.before.before.before.before.before.before.before.before.before.before.before.before.before.before.before.before.before.before.before.before in
-    omega (arith, start.requires.6.written, start.well-formed)
+    let start = c in
+    omega (arith, start.requires.6.written, start.well_formed)
 
-store-signed-requires : tie.Need-store-signed-requires
+store-signed-requires : tie.Need-store_signed-requires
 store-signed-requires c κs =
-    let ran = c.before.before.before.before.before.before in
-    let m = ran.before.before.before.before.before.before.before.before.before.before in
-    let start = m.before.before.before.before.before.before.before.before.before.before in
-    store-fits start.args.outputs.now start.args.b.written m.at-most2.ensures.0 _ m.at-most2.ensures.1 _ _ _ ran.run-in-place.ensures.is
-    ran.run-in-place.auto.1.1.1.1.1.1.1.1.0 start.requires.6.written
+    let ran = c in
+    let m = ran in
+    let start = m in
+    store-fits start.args.outputs.now start.args.b.written m.at_most-m.ensures.0 _ m.at_most-m.ensures.1 _ _ _ ran.run_in_place-ran.ensures.is
+    ran.run_in_place-ran.auto.outputs start.requires.6.written
 
-same_length : tie.Need-same-length
+same_length : tie.Need-shape_of-chip
 same_length c = search rules
 
-same-length-2 : tie.Need-same-length-2
+same-length-2 : tie.Need-shape_of-outputs
 same-length-2 c = search rules
 
-same-length-3 : tie.Need-same-length-3
+same-length-3 : tie.Need-shape_of-values
 same-length-3 c = search rules
 
-same-length-4 : tie.Need-same-length-4
+same-length-4 : tie.Need-shape_of-places
 same-length-4 c = search rules
 
 returns : tie.Need-returns
 returns c =
-    let ran = c.before.before.before.before.before.before.before.before.before in
-    let m = ran.before.before.before.before.before.before.before.before.before.before in
-    let n = m.before.before in
-    let start = n.before.before.before.before.before.before.before.before in
-    stretch-is _ _ m.at-most2.ensures.0 _ m.at-most2.ensures.1 _ _ _ ran.run-in-place.ensures.is ran.run-in-place.auto.1.1.1.1.1.1.1.1.0 _
-    start.args.b.taken n.at_most.ensures.0 start.requires.6.taken ran.before.before.before.before.before.before.before.load_signed.ensures c.before.before.store-signed.ensures
+    let ran = c in
+    let m = ran in
+    let n = m in
+    let start = n in
+    stretch-is _ _ m.at_most-m.ensures.0 _ m.at_most-m.ensures.1 _ _ _ ran.run_in_place-ran.ensures.is ran.run_in_place-ran.auto.outputs _
+    start.args.b.taken n.at_most-n.ensures.0 start.requires.6.taken ran.load_signed.ensures c.store_signed.ensures
 
-pub stretch-spec : {M : Type 1} → statement M
-stretch-spec =
+pub stretch_spec : {M : Type 1} → statement M
+stretch_spec =
     tie.close
     (tie.spec
     sub-left
