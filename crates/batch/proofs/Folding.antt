@@ -102,12 +102,12 @@ module _ {p : List ℕ} (plan : Plan p) (f : Frame) where
       }
 
   -- the last chip's marks name the plan or none, as those of the first do
-  pub passed-names : {page owner named : ℕ} {chip l : List ℕ} → Names p owner → Passed page p owner chip named l → Names p named
+  pub passed-names : {page owner : ℕ} {chip : List ℕ} {named : ℕ} {l : List ℕ} → Names p owner → Passed page p owner chip named l → Names p named
   passed-names names Passed.as_left = names
   passed-names names (Passed.folded h e d) = inl refl
   passed-names names (Passed.noted h d) = passed-names names h
 
-  pub passed-taken : {page owner named : ℕ} {chip l : List ℕ} → Names p owner → TakenUp page owner p f chip → Passed page p owner chip named l → TakenUp page named p f l
+  pub passed-taken : {page owner : ℕ} {chip : List ℕ} {named : ℕ} {l : List ℕ} → Names p owner → TakenUp page owner p f chip → Passed page p owner chip named l → TakenUp page named p f l
   passed-taken names u Passed.as_left = u
   passed-taken names u (Passed.folded {named} {l} {new} h e d) =
       subst (λ (k : ℕ). TakenUp k (owner_of_plan p) p f new) (sym e)

@@ -1,6 +1,8 @@
-// The C interface of the plan engine: `extern "C"` entries on numbers and byte slices, declared in
-// include/pitskelo.h. A slice is a pointer and then a length. The result is 0 where a call is
-// accepted, else the refusal's number of document 01; a refused call alters nothing that was lent.
+// The entries of the C interface of the plan engine, on numbers and byte slices; crate `pitskelo_c` exports
+// each under its name, as include/pitskelo.h declares it. The result is 0 where a call is accepted, else the
+// refusal's number of document 01; a refused call alters nothing that was lent.
+#![tactic(auto)]
+
 mod ended;
 mod words;
 
@@ -29,8 +31,7 @@ use words::store_words;
 const ACCEPTED: u32 = 0;
 
 // Checks a plan and gives its numbers of cells, commands and EXCLUDEs.
-#[unsafe(no_mangle)]
-pub extern "C" fn pitskelo_check(
+pub fn pitskelo_check(
     plan: &[u8],
     cells: &mut u32,
     commands: &mut u32,
@@ -70,8 +71,7 @@ fn store_both(dead: &mut [u8], sets: &mut [u8], d: &[u64], m: usize, s: &[u64], 
 }
 
 // Analyses a plan into two buffers of 64-bit words: the dead sets, and DE and RO of each EXCLUDE.
-#[unsafe(no_mangle)]
-pub extern "C" fn pitskelo_analyse(plan: &[u8], dead: &mut [u8], sets: &mut [u8]) -> u32
+pub fn pitskelo_analyse(plan: &[u8], dead: &mut [u8], sets: &mut [u8]) -> u32
     ensures { AnalyseCall plan.now dead.old sets.old dead.new sets.new result }
 {
     let mut d = [0u64; 2048];
@@ -167,16 +167,14 @@ fn recover_lent(page: u32, plan: &[u8], sets: &[u8], chip: &[u8], state: &mut [u
 }
 
 // Restores the state that a byte chip holds.
-#[unsafe(no_mangle)]
-pub extern "C" fn pitskelo_recover(plan: &[u8], sets: &[u8], chip: &[u8], state: &mut [u8]) -> u32
+pub fn pitskelo_recover(plan: &[u8], sets: &[u8], chip: &[u8], state: &mut [u8]) -> u32
     ensures { RecoverCall 1 plan.now sets.now chip.now state.old state.new result }
 {
     recover_lent(BYTE, plan, sets, chip, state)
 }
 
 // Restores the state that a page chip holds.
-#[unsafe(no_mangle)]
-pub extern "C" fn pitskelo_page_recover(
+pub fn pitskelo_page_recover(
     plan: &[u8],
     sets: &[u8],
     chip: &[u8],
@@ -217,7 +215,7 @@ fn run_lent(
     taken: &mut u64,
     given: &mut u64,
 ) -> u32
-    ensures* { λ r. ⌜ record { result = r; chip = chip.new; state = state.new; outputs = outputs.new; numbers = ended.new ∷ steps.new ∷ taken.new ∷ given.new ∷ [] } ≡ run_call_of (record { page = page; plan = plan.now; sets = sets.now; chip = chip.old; state = state.old; readings = readings.now; outputs = outputs.old; budget = budget; numbers = ended.old ∷ steps.old ∷ taken.old ∷ given.old ∷ [] }) ⌝ }
+    ensures { record { result = result; chip = chip.new; state = state.new; outputs = outputs.new; numbers = ended.new ∷ steps.new ∷ taken.new ∷ given.new ∷ [] } ≡ run_call_of (record { page = page; plan = plan.now; sets = sets.now; chip = chip.old; state = state.old; readings = readings.now; outputs = outputs.old; budget = budget; numbers = ended.old ∷ steps.old ∷ taken.old ∷ given.old ∷ [] }) }
 {
     if state.len() != 1312 {
         return odd_state(plan, sets);
@@ -258,8 +256,7 @@ fn run_lent(
 }
 
 // Runs the plan on a byte chip, from the lent state for at most `budget` steps.
-#[unsafe(no_mangle)]
-pub extern "C" fn pitskelo_run(
+pub fn pitskelo_run(
     plan: &[u8],
     sets: &[u8],
     chip: &mut [u8],
@@ -272,7 +269,7 @@ pub extern "C" fn pitskelo_run(
     taken: &mut u64,
     given: &mut u64,
 ) -> u32
-    ensures* { λ r. ⌜ record { result = r; chip = chip.new; state = state.new; outputs = outputs.new; numbers = ended.new ∷ steps.new ∷ taken.new ∷ given.new ∷ [] } ≡ run_call_of (record { page = 1; plan = plan.now; sets = sets.now; chip = chip.old; state = state.old; readings = readings.now; outputs = outputs.old; budget = budget; numbers = ended.old ∷ steps.old ∷ taken.old ∷ given.old ∷ [] }) ⌝ }
+    ensures { record { result = result; chip = chip.new; state = state.new; outputs = outputs.new; numbers = ended.new ∷ steps.new ∷ taken.new ∷ given.new ∷ [] } ≡ run_call_of (record { page = 1; plan = plan.now; sets = sets.now; chip = chip.old; state = state.old; readings = readings.now; outputs = outputs.old; budget = budget; numbers = ended.old ∷ steps.old ∷ taken.old ∷ given.old ∷ [] }) }
 {
     run_lent(
         BYTE, plan, sets, chip, state, readings, outputs, budget, ended, steps, taken, given,
@@ -280,8 +277,7 @@ pub extern "C" fn pitskelo_run(
 }
 
 // The same on a page chip.
-#[unsafe(no_mangle)]
-pub extern "C" fn pitskelo_page_run(
+pub fn pitskelo_page_run(
     plan: &[u8],
     sets: &[u8],
     chip: &mut [u8],
@@ -294,7 +290,7 @@ pub extern "C" fn pitskelo_page_run(
     taken: &mut u64,
     given: &mut u64,
 ) -> u32
-    ensures* { λ r. ⌜ record { result = r; chip = chip.new; state = state.new; outputs = outputs.new; numbers = ended.new ∷ steps.new ∷ taken.new ∷ given.new ∷ [] } ≡ run_call_of (record { page = 16; plan = plan.now; sets = sets.now; chip = chip.old; state = state.old; readings = readings.now; outputs = outputs.old; budget = budget; numbers = ended.old ∷ steps.old ∷ taken.old ∷ given.old ∷ [] }) ⌝ }
+    ensures { record { result = result; chip = chip.new; state = state.new; outputs = outputs.new; numbers = ended.new ∷ steps.new ∷ taken.new ∷ given.new ∷ [] } ≡ run_call_of (record { page = 16; plan = plan.now; sets = sets.now; chip = chip.old; state = state.old; readings = readings.now; outputs = outputs.old; budget = budget; numbers = ended.old ∷ steps.old ∷ taken.old ∷ given.old ∷ [] }) }
 {
     run_lent(
         PAGE, plan, sets, chip, state, readings, outputs, budget, ended, steps, taken, given,
@@ -302,8 +298,7 @@ pub extern "C" fn pitskelo_page_run(
 }
 
 // Folds an old byte chip onto a new one: the next bytes of its one save, at most `budget`.
-#[unsafe(no_mangle)]
-pub extern "C" fn pitskelo_fold(
+pub fn pitskelo_fold(
     plan: &[u8],
     sets: &[u8],
     old: &[u8],
@@ -313,7 +308,7 @@ pub extern "C" fn pitskelo_fold(
     after: &mut u64,
     finished: &mut u32,
 ) -> u32
-    ensures* { λ r. ⌜ FoldCall (record { plan = plan.entry.now; sets = sets.now; old = old.now; new = new.old; stored = stored; budget = budget; numbers = after.old ∷ finished.old ∷ [] }) (record { result = r; new = new.new; numbers = after.new ∷ finished.new ∷ [] }) ⌝ }
+    ensures { FoldCall (record { plan = plan.now; sets = sets.now; old = old.now; new = new.old; stored = stored; budget = budget; numbers = after.old ∷ finished.old ∷ [] }) (record { result = result; new = new.new; numbers = after.new ∷ finished.new ∷ [] }) }
 {
     let count = word_count(sets);
     let words = load_words(sets, count);
@@ -351,16 +346,14 @@ fn spent_lent(page: u32, plan: &[u8], chip: &[u8], place: u64, may: &mut u32) ->
 }
 
 // Tells whether a note may stand at a place of a byte chip.
-#[unsafe(no_mangle)]
-pub extern "C" fn pitskelo_spent(plan: &[u8], chip: &[u8], place: u64, may: &mut u32) -> u32
+pub fn pitskelo_spent(plan: &[u8], chip: &[u8], place: u64, may: &mut u32) -> u32
     ensures { SpentCall 1 plan.now chip.now place (may.old ∷ []) (may.new ∷ []) result }
 {
     spent_lent(BYTE, plan, chip, place, may)
 }
 
 // The same of a page chip.
-#[unsafe(no_mangle)]
-pub extern "C" fn pitskelo_page_spent(plan: &[u8], chip: &[u8], place: u64, may: &mut u32) -> u32
+pub fn pitskelo_page_spent(plan: &[u8], chip: &[u8], place: u64, may: &mut u32) -> u32
     ensures { SpentCall 16 plan.now chip.now place (may.old ∷ []) (may.new ∷ []) result }
 {
     spent_lent(PAGE, plan, chip, place, may)

@@ -9,23 +9,23 @@ use Rattle.pitskelo.proofs.odd_state.Tie as tie
 check-requires : tie.Need-check-requires
 check-requires c κs = search rules
 
-enum-known-number : tie.Need-enum-known-number
+enum-known-number : tie.Need-enum_known-number
 enum-known-number c = search rules
 
-enum_told : tie.Need-enum-told
+enum_told : tie.Need-enum_told-1
 enum_told c = search rules
 
-returns : tie.Need-returns
-returns c = words-short _ _ (sym c.before.enum_told.given.1 ∙ c.before.before.before.check.ensures.is) c.if1.true
+returns : tie.Need-returns-then-sets-lt512
+returns c = words-short _ _ (sym c.in-Program.is ∙ c.check.ensures.is) c.if-sets-lt512.true
 
-returns-2 : tie.Need-returns-2
+returns-2 : tie.Need-returns-in-Refused
 returns-2 c =
-    let answer = c.before.before.before.check.ensures in
-    plan-refused _ _ (sym c.before.number.given.1 ∙ answer.is) (rw c.before.number.given.1 at answer.ruled)
+    let answer = c.check.ensures in
+    plan-refused _ _ (sym c.in-Refused.is ∙ answer.is) (rw c.in-Refused.is at answer.ruled)
 
-returns-3 : tie.Need-returns-3
-returns-3 c = state-odd _ _ (sym c.before.enum_told.given.1 ∙ c.before.before.before.check.ensures.is) c.if1.false
+returns-3 : tie.Need-returns-else-sets-lt512
+returns-3 c = state-odd _ _ (sym c.in-Program.is ∙ c.check.ensures.is) c.if-sets-lt512.false
 
-pub odd-state-spec : {M : Type 1} → statement M
-odd-state-spec =
+pub odd_state_spec : {M : Type 1} → statement M
+odd_state_spec =
     tie.close (tie.spec check-requires enum-known-number enum_told returns returns-2 returns-3)

@@ -5,29 +5,29 @@ use borrow.Author.Rules.{rules}
 use Rattle.pitskelo.proofs.spent_lent.Statement.{statement}
 use Rattle.pitskelo.proofs.spent_lent.Tie as tie
 
-owner-of-requires : tie.Need-owner-of-requires
+owner-of-requires : tie.Need-owner_of-requires
 owner-of-requires c κs = search rules
 
 spent-requires : tie.Need-spent-requires
 spent-requires c κs = search rules
 
-enum-known-told : tie.Need-enum-known-told
+enum-known-told : tie.Need-enum_known-told
 enum-known-told c = search rules
 
-cast-may : tie.Need-overflow-cast-may
+cast-may : tie.Need-overflow_cast-may
 cast-may c = search rules
 
-enum-known-number : tie.Need-enum-known-number
+enum-known-number : tie.Need-enum_known-number
 enum-known-number c = search rules
 
-returns : tie.Need-returns
-returns c = may-call c.before.before.before.before.owner_of.ensures c.before.before.before.spent.ensures c.before.told.given.1 _
+returns : tie.Need-returns-in-May
+returns c = may-call c.owner_of.ensures c.spent.ensures c.in-May.is _
 
-returns-2 : tie.Need-returns-2
-returns-2 c = refused-call c.before.before.before.before.owner_of.ensures c.before.before.before.spent.ensures c.before.number.given.1 _
+returns-2 : tie.Need-returns-in-Refused
+returns-2 c = refused-call c.owner_of.ensures c.spent.ensures c.in-Refused.is _
 
-pub spent-lent-spec : {M : Type 1} → statement M
-spent-lent-spec =
+pub spent_lent_spec : {M : Type 1} → statement M
+spent_lent_spec =
     tie.close
     (tie.spec
     owner-of-requires

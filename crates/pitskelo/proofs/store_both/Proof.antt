@@ -8,29 +8,29 @@ use borrow.Author.Rules.{rules}
 use Rattle.pitskelo.proofs.store_both.Statement.{statement}
 use Rattle.pitskelo.proofs.store_both.Tie as tie
 
-returns : tie.Need-returns
+returns : tie.Need-returns-then-dead-lt2048
 returns c = short (inl (omega arith)) (omega arith) refl refl
 
-returns-2 : tie.Need-returns-2
+returns-2 : tie.Need-returns-then-sets-lt512
 returns-2 c = short (inr (omega arith)) (omega arith) refl refl
 
-store-words-requires : tie.Need-store-words-requires
+store-words-requires : tie.Need-store_words-requires
 store-words-requires c κs = search rules
 
-store-words-requires-2 : tie.Need-store-words-requires-2
+store-words-requires-2 : tie.Need-store_words-requires-2
 store-words-requires-2 c κs = search rules
 
-same_length : tie.Need-same-length
+same_length : tie.Need-shape_of-dead
 same_length c = search rules
 
-same-length-2 : tie.Need-same-length-2
+same-length-2 : tie.Need-shape_of-sets
 same-length-2 c = search rules
 
-returns-3 : tie.Need-returns-3
-returns-3 c = long (omega arith) (omega arith) (omega arith) c.before.before.before.before.before.before.store_words_lem.ensures c.before.before.store-words2.ensures
+returns-3 : tie.Need-returns
+returns-3 c = long (omega arith) (omega arith) (omega arith) c.store_words.ensures c.store_words-2.ensures
 
-pub store-both-spec : {M : Type 1} → statement M
-store-both-spec =
+pub store_both_spec : {M : Type 1} → statement M
+store_both_spec =
     tie.close
     (tie.spec
     returns
