@@ -59,7 +59,7 @@ finishing {p} {old} {new} {l} n x = subst (Folds (env_of p (sets_in l.sets)) old
 
 -- ---- lists of them
 
-list_of : {p old new : List ℕ} {n : ℕ} → FoldCalls p old n new → lists.Folding p old n new
+list_of : {p old : List ℕ} {n : ℕ} {new : List ℕ} → FoldCalls p old n new → lists.Folding p old n new
 list_of FoldCalls.blank = lists.Folding.blank
 list_of {p} {old} {n = n} (FoldCalls.calls h l s o x) =
     subst (lists.Folding p old n) (sym x.chip) (lists.Folding.calls (list_of h) (sets_in l.sets) l.stored l.budget x.outcome (folds-of s x))

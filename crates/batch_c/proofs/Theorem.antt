@@ -74,7 +74,7 @@ q-3-any-time page p plan ρ n b c =
 -- ---- Q-6, Q-8 and Q-14
 
 -- a chip that is passed on by C calls is by those of crate `folding`
-passed-of : {page owner named : ℕ} {p chip l : List ℕ} → Passed page p owner chip named l → batch.Passed page p owner chip named l
+passed-of : {page owner : ℕ} {p chip : List ℕ} {named : ℕ} {l : List ℕ} → Passed page p owner chip named l → batch.Passed page p owner chip named l
 passed-of Passed.as_left = batch.Passed.as_left
 passed-of (Passed.folded h e f) = batch.Passed.folded (passed-of h) e (finished-of f)
 passed-of (Passed.noted h n) = batch.Passed.noted (passed-of h) n
