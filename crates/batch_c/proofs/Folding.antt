@@ -25,7 +25,7 @@ use Rattle.pitskelo.specs.Calls.{leaves}
 use Rattle.pitskelo.specs.Runs.{sets_in, RecoverCall}
 use Rattle.pitskelo.specs.Folds.{FoldLent, FoldLeft, FoldCall}
 use Rattle.restart_c.proofs.Calling.{accepted-size, accepted-restored}
-use Rattle.batch_c.specs.Fold.{Lends, FoldCalls, Finishes, SameBytes, Gives, FoldClaim, Q6, Finished}
+use Rattle.batch_c.specs.Fold.{Lends, FoldCalls, Finishes, SameBytes, Gives, Q6, Finished}
 use Rattle.batch_c.proofs.Bytes.{restored-full, same_bytes}
 
 -- ---- one call

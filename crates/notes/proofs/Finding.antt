@@ -1,17 +1,17 @@
 -- The record whose value stands at an offset, found by a walk over whole checkpoints (`record_at`): what stands ahead of the walk (`Ahead`), and its turns.
 -- Assumes nothing.
-use Prim.Native.Nat.{ℕ, suc, ◌+◌, ◌*◌, ◌≤◌, ◌<◌}
-use mathlib.Core.Path.{◌≡◌, refl, sym, ◌∙◌, ap, subst}
+use Prim.Native.Nat.{ℕ, ◌+◌, ◌*◌, ◌≤◌, ◌<◌}
+use mathlib.Core.Path.{◌≡◌, sym, ◌∙◌, ap, subst}
 use mathlib.Core.List.{List, [], ◌∷◌, ◌++◌, append_assoc}
 use mathlib.Core.Logic.{◌⊎◌, inl, inr}
 use native.Mathlib.Omega.{arith}
 use lib.ListN.{length, get_or, drop, replicate, length-append, length-replicate}
 use lib.Seq.{drop-drop, drop_at, get_or-drop}
 use Rattle.journal.specs.declared.Commit.{Commit}
-use Rattle.journal.specs.Format.{Format, format_of, mark_lead, mark_length, fill_of, filled_of, Saved, Checkpoint, record_image, records_image, commit_image, image, padded, images}
+use Rattle.journal.specs.Format.{Format, mark_length, fill_of, filled_of, Saved, Checkpoint, record_image, records_image, commit_image, image, padded, images}
 use Rattle.journal.proofs.Written.{record-length, commit-length, records-append, records-length}
 use Rattle.journal.proofs.Paging.{Whole, whole-none, fill-whole, fill-behind}
-use Rattle.notes.specs.Notes.{RecordAt, ValueAt, CellAt}
+use Rattle.notes.specs.Notes.{RecordAt, ValueAt}
 
 no_record : {c at from : ℕ} → ¬ RecordAt c at from []
 no_record = elim [ ]

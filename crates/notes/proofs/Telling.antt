@@ -1,18 +1,18 @@
 -- Whether a note may stand at a place, from what the parts of `spent` find: a bit of the dead sets (`dead-told`), and the one record whose value stands there (`place-told`).
 -- Assumes nothing.
 use Prim.Native.Nat.{ℕ, ◌+◌, ◌-◌, ◌*◌, ◌/◌, ◌%◌, ◌≤◌, ◌<◌}
-use mathlib.Core.Path.{◌≡◌, refl, sym, ◌∙◌, ap, subst}
+use mathlib.Core.Path.{◌≡◌, sym, ◌∙◌, ap, subst}
 use mathlib.Core.Bool.{Bool, true, false}
-use mathlib.Core.List.{List, [], ◌∷◌, ◌++◌, append_assoc}
-use mathlib.Core.Logic.{◌⊎◌, inl, inr, ⊎_elim}
+use mathlib.Core.List.{List, ◌++◌, append_assoc}
+use mathlib.Core.Logic.{◌⊎◌, inl, inr}
 use native.Mathlib.Omega.{arith}
 use lib.ListN.{length, get_or, take, drop, replicate, length-append}
 use lib.Dec.{eqb}
 use borrow.Author.Tests.{eq-eqb, ne_eqb}
-use Rattle.cellset.specs.Bits.{bit, has, member}
+use Rattle.cellset.specs.Bits.{has, member}
 use Rattle.cellset.proofs.Bits.{bit-cases}
 use Rattle.cellset.proofs.Sets.{has-load}
-use Rattle.instruction.specs.Bytes.{byte, cells_of}
+use Rattle.instruction.specs.Bytes.{cells_of}
 use Rattle.program.specs.Places.{is_start, after_checkpoint}
 use Rattle.program.proofs.Accepted.{accepted}
 use Rattle.program.proofs.AfterLaws.{checkpoint-before}
@@ -21,11 +21,10 @@ use Rattle.analysis.specs.Paths.{Live, Dead}
 use Rattle.analysis.specs.Analyse.{DeadSets, analyse_of, Analyses}
 use Rattle.analysis.specs.declared.Analysed.{Analysed}
 use Rattle.journal.specs.declared.Commit.{Commit}
-use Rattle.journal.specs.Format.{Format, kind_of, format_of, format_for, Saved, Checkpoint, padded, images}
-use Rattle.journal.specs.Reading.{Facts, facts_of, first, Once, one, Rising, last_of, Reading}
+use Rattle.journal.specs.Format.{Format, kind_of, format_of, format_for, Saved, Checkpoint, images}
+use Rattle.journal.specs.Reading.{Facts, facts_of, Once, Rising, last_of}
 use Rattle.journal.specs.Parts.{Decides}
 use Rattle.journal.proofs.Back.{one-reading}
-use Rattle.journal.proofs.Paging.{chip-length}
 use Rattle.step.specs.Ready.{Legal}
 use Rattle.notes.specs.Notes.{RecordAt, ValueAt, last_checkpoint, NotePlace, CellAt, ReadTo}
 use Rattle.notes.proofs.Noting.{last-place}

@@ -10,7 +10,7 @@ use Rattle.program.specs.Check.{Answer}
 use Rattle.journal.specs.Format.{owner_of_plan}
 use Rattle.notes.specs.declared.Told.{Told}
 use Rattle.notes.specs.declared.Told.TheVariants.{May, Refused}
-use Rattle.notes.specs.Notes.{SpentIs, answer_of}
+use Rattle.notes.specs.Notes.{SpentIs}
 use Rattle.notes.proofs.Laws.{one_answer, refused-not-zero}
 use Rattle.pitskelo.specs.Calls.{leaves}
 use Rattle.pitskelo.specs.Notes.{SpentCall}

@@ -31,12 +31,7 @@ use words::store_words;
 const ACCEPTED: u32 = 0;
 
 // Checks a plan and gives its numbers of cells, commands and EXCLUDEs.
-pub fn pitskelo_check(
-    plan: &[u8],
-    cells: &mut u32,
-    commands: &mut u32,
-    excludes: &mut u32,
-) -> u32
+pub fn pitskelo_check(plan: &[u8], cells: &mut u32, commands: &mut u32, excludes: &mut u32) -> u32
     ensures { CheckCall plan.now (cells.old ∷ commands.old ∷ excludes.old ∷ []) (cells.new ∷ commands.new ∷ excludes.new ∷ []) result }
 {
     match program::check(plan) {
@@ -174,12 +169,7 @@ pub fn pitskelo_recover(plan: &[u8], sets: &[u8], chip: &[u8], state: &mut [u8])
 }
 
 // Restores the state that a page chip holds.
-pub fn pitskelo_page_recover(
-    plan: &[u8],
-    sets: &[u8],
-    chip: &[u8],
-    state: &mut [u8],
-) -> u32
+pub fn pitskelo_page_recover(plan: &[u8], sets: &[u8], chip: &[u8], state: &mut [u8]) -> u32
     ensures { RecoverCall 16 plan.now sets.now chip.now state.old state.new result }
 {
     recover_lent(PAGE, plan, sets, chip, state)

@@ -10,7 +10,7 @@ use lib.ListN.{length}
 use lib.Dec.{eqb}
 use Rattle.program.proofs.Tests.{bool_cases}
 use Rattle.step.specs.State.{Env, Machine}
-use Rattle.run.specs.Run.{Call, Outcome, started, refusal_of, refused_with, call_of}
+use Rattle.run.specs.Run.{Call, started, refusal_of, refused_with, call_of}
 use Rattle.run.specs.declared.Ended.{Ended}
 use Rattle.run.proofs.Laws.{Exits, stopped, spent, no_reading, buffer_full, run-exit}
 use Rattle.recovery.specs.Recover as recovery

@@ -10,7 +10,7 @@ use lib.ListN.{length, get_or}
 use lib.Dec.{eqb, ltb}
 use borrow.Author.Tests.{lt-ltb, eq-eqb, ne_eqb, eqb-true, eqb-false}
 use Rattle.instruction.specs.Bytes.{byte, instruction_at_of}
-use Rattle.execution.specs.Effects.{Effect, saves, effect_of, cells_in}
+use Rattle.execution.specs.Effects.{Effect, effect_of, cells_in}
 use Rattle.program.specs.Places.{is_start}
 use Rattle.program.proofs.Tests.{bool_cases}
 use Rattle.journal.specs.Format.{Checkpoint}

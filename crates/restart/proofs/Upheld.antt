@@ -19,7 +19,7 @@ use Rattle.recovery.specs.Recover.{Recovers}
 use Rattle.recovery.specs.declared.Recovered.TheVariants as recovered
 use Rattle.recovery.proofs.Laws.{restored-kind}
 use Rattle.restart.specs.Reference.{Frame, Numbered, numbered_from, ref_at, emitted, taken}
-use Rattle.restart.specs.History.{System, unused, restored, crashed, given, Request, wrote, lent, outcome_of, tally_after, ran}
+use Rattle.restart.specs.History.{System, unused, restored, crashed, Request, wrote, lent, outcome_of, tally_after, ran}
 use Rattle.restart.specs.Claim.{Plan, Safe, Resumes, Owned, TakenUp, distinct}
 use Rattle.restart.proofs.Invariant.{Inv}
 use Rattle.restart.proofs.Frames.{emitted-none, news, distinct_append}

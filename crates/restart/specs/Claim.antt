@@ -15,7 +15,7 @@ use Rattle.journal.specs.Reading.{first, facts_of, last_of, own_all, saved_value
 use Rattle.journal.specs.Shape.{Shape}
 use Rattle.step.specs.declared.Regs.{Regs}
 use Rattle.step.specs.State.{Env, env_of, Machine}
-use Rattle.run.specs.Run.{refusal_of, Outcome, call_of}
+use Rattle.run.specs.Run.{refusal_of, call_of}
 use Rattle.step.specs.Ready.{Legal}
 use Rattle.run.specs.declared.Ended.{Ended}
 use Rattle.run.specs.declared.Ended.TheVariants.{Stopped, Spent}

@@ -10,7 +10,6 @@ use Rattle.journal.specs.Format.{owner_of_plan, chip_length}
 use Rattle.recovery.proofs.Recovering.{Answered, answered}
 use Rattle.folding.proofs.Putting.{refused-words, refused-new, new-fits, refused-old, damaged-length, folded-older, refused-owner, folded}
 use borrow.Author.Rules.{rules}
-use borrow.Author.Tests.{not-true, not-false}
 use Rattle.folding.proofs.fold_legal.Statement.{statement}
 use Rattle.folding.proofs.fold_legal.Tie as tie
 

@@ -1,7 +1,6 @@
 -- `notes::is_dead` meets its contract: a bit of the dead sets that `analyse` finds.
 -- Assumes nothing.
-use Prim.Native.Nat.{◌+◌, ◌*◌, ◌≤◌}
-use mathlib.Core.Path.{◌≡◌, refl, sym}
+use mathlib.Core.Path.{refl, sym}
 use native.Mathlib.Omega.{arith}
 use Rattle.program.proofs.Accepted.{accepted}
 use Rattle.notes.proofs.Telling.{dead-size, dead-told}

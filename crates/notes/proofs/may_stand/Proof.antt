@@ -1,6 +1,5 @@
 -- `notes::may_stand` meets its contract: the record whose value stands at the place, and whether its cell is dead.
 -- Assumes nothing.
-use Prim.Native.Nat.{◌≤◌}
 use native.Mathlib.Omega.{arith}
 use Rattle.journal.proofs.Paging.{chip-length}
 use Rattle.notes.proofs.Telling.{bytes_of, cell-found, none_told, stands, cell-exists, checkpoint-starts, place-told}

@@ -1,7 +1,6 @@
 -- `notes::spent_legal` meets its contract: recovery's refusal of the chip, or whether a note may stand at the place.
 -- Assumes nothing.
 use native.Mathlib.Omega.{arith}
-use borrow.Author.Tests.{not-true, not-false}
 use Rattle.notes.proofs.Asking.{answers, by_length, by-damage, by-owner, read-to, by-reading}
 use borrow.Author.Rules.{rules}
 use Rattle.notes.proofs.spent_legal.Statement.{statement}

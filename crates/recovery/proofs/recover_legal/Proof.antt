@@ -5,7 +5,6 @@ use native.Mathlib.Omega.{arith}
 use lib.ListN.{length}
 use Rattle.recovery.proofs.Recovering.{Answered, answered, older-read, refused-words, refused-length, refused-damaged, refused-owner, restored, found_within, found-exclude}
 use borrow.Author.Rules.{rules}
-use borrow.Author.Tests.{not-true, not-false}
 use Rattle.recovery.proofs.recover_legal.Statement.{statement}
 use Rattle.recovery.proofs.recover_legal.Tie as tie
 

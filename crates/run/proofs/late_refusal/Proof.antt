@@ -4,7 +4,6 @@ use Rattle.std.proofs.Common.{ap, not}
 use mathlib.Core.Path.{sym, ◌∙◌}
 use native.Mathlib.Omega.{arith}
 use borrow.Author.Rules.{rules}
-use borrow.Author.Tests.{not-true, not-false}
 use Rattle.run.proofs.Calls.{size, late-words, late-state, late-chip, late-none}
 use Rattle.run.proofs.late_refusal.Statement.{statement}
 use Rattle.run.proofs.late_refusal.Tie as tie

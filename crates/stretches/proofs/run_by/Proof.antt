@@ -9,7 +9,6 @@ use Rattle.layout.specs.Numbers.{signed_of}
 use Rattle.run.specs.declared.Stand.{Stand}
 use Rattle.stretches.proofs.Running.{signed-of-length}
 use Rattle.stretches.proofs.Whole.{Stands, stands-first, stands-within, stands-next, stands-moves, stands-ends}
-use borrow.Author.Tests.{not-true, not-false}
 use borrow.Author.Rules.{rules}
 use Rattle.stretches.proofs.run_by.Statement.{statement}
 use Rattle.stretches.proofs.run_by.Tie as tie

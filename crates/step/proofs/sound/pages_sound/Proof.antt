@@ -2,7 +2,6 @@
 -- Assumes nothing.
 use mathlib.Core.Path.{sym, ◌∙◌}
 use borrow.Author.Rules.{rules}
-use borrow.Author.Tests.{not-true, not-false}
 use Rattle.step.proofs.Soundness.{pages-none, pages-many, pages-write, pages-erase}
 use Rattle.step.proofs.sound.pages_sound.Statement.{statement}
 use Rattle.step.proofs.sound.pages_sound.Tie as tie

@@ -5,7 +5,6 @@ use native.Mathlib.Omega.{arith}
 use Rattle.step.specs.State.{machine_of}
 use Rattle.step.proofs.Soundness.{size-most, size_is, saving-none, saving-elsewhere, saving-erasing, saving-over, saving-apart, saving-fits}
 use borrow.Author.Rules.{rules}
-use borrow.Author.Tests.{not-true, not-false}
 use Rattle.step.proofs.sound.saving_sound.Statement.{statement}
 use Rattle.step.proofs.sound.saving_sound.Tie as tie
 
