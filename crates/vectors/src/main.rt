@@ -2,56 +2,63 @@
 // a line to a row, with the number of the answer and, where the program passes, its cells, commands
 // and EXCLUDEs; for the sets the listing, below the row's name; for the chip what the module
 // journals says, for runs what the module runs says. Document 001's programs are those of examples/.
+#![tactic(auto)]
+
 mod journals;
 mod runs;
 
-use libc::STDOUT_FILENO;
 use program::Checked;
+use std::io;
 
-fn number(n: u32) {
-    io::write_all(STDOUT_FILENO, b" ");
-    io::print_decimal(STDOUT_FILENO, n as u64);
+fn number(rt: &impl Print, n: u32) -> io::Result<()> {
+    print!(rt; " {n}")
 }
 
-fn answer(c: Checked) {
+fn answer(rt: &impl Print, c: Checked) -> io::Result<()> {
     match c {
         Checked::Program {
             cells,
             instructions,
             excludes,
         } => {
-            number(0);
-            number(cells);
-            number(instructions);
-            number(excludes);
+            number(rt, 0)?;
+            number(rt, cells)?;
+            number(rt, instructions)?;
+            number(rt, excludes)
         }
-        Checked::Refused(n) => number(n),
+        Checked::Refused(n) => number(rt, n),
     }
 }
 
-fn row(name: &[u8], plan: &[u8]) {
-    io::write_all(STDOUT_FILENO, name);
-    io::write_all(STDOUT_FILENO, b":");
-    answer(program::check(plan));
-    io::write_all(STDOUT_FILENO, b"\n");
+fn row(rt: &impl Print, name: &[u8], plan: &[u8]) -> io::Result<()> {
+    rt.write_all(name)?;
+    rt.write_all(b":")?;
+    answer(rt, program::check(plan))?;
+    rt.write_all(b"\n")
 }
 
-fn sets(name: &[u8], plan: &[u8]) {
-    let mut text = [0u8; 140000];
+fn sets(rt: &(impl Print + AllocGlobal), name: &[u8], plan: &[u8]) -> io::Result<()> {
+    let mut text = vec![in rt.alloc(); 0u8; 140000]?;
     let end = listing::list(plan, &mut text);
-    io::write_all(STDOUT_FILENO, name);
-    io::write_all(STDOUT_FILENO, b":\n");
-    io::write_all(STDOUT_FILENO, &text[..end]);
+    rt.write_all(name)?;
+    rt.write_all(b":\n")?;
+    rt.write_all(&text[..end])
 }
 
 // The sets of one of document 001's programs, and a run of it.
-fn program(name: &[u8], plan: &[u8], readings: &[i32]) {
-    sets(name, plan);
-    runs::program(name, plan, readings);
+fn program(
+    rt: &(impl Print + AllocGlobal),
+    name: &[u8],
+    plan: &[u8],
+    readings: &[i32],
+) -> io::Result<()> {
+    sets(rt, name, plan)?;
+    runs::program(rt, name, plan, readings)
 }
 
-fn cell() {
+fn cell(rt: &(impl Print + AllocGlobal)) -> io::Result<()> {
     program(
+        rt,
         b"CELL",
         b"\x36\x02\x31\x01\x00\x00\x00\x02\x32\x02\x00\x00\x00\x02\x33\x03\x00\x00\x00\x02\
           \x34\x05\x00\x00\x00\x02\x35\x09\x00\x00\x00\x02\x36\x10\x00\x00\x00\x02\x20\xFB\
@@ -73,11 +80,12 @@ fn cell() {
           \x04\x29\x29\x31\x0A\x29\x32\x7C\x00\x02\x2C\x00\x00\x00\x00\x0B\x2F\x00\x10\x2C\
           \x08\x2F\x04\x2C\x2C\x31\x0A\x2C\x36\x63\x01\x01",
         &[1, 1, 0, 0, 1, 1, 0, 1, 0, 0, 1, 1, 0, 1, 1, 0],
-    );
+    )
 }
 
-fn sieve() {
+fn sieve(rt: &(impl Print + AllocGlobal)) -> io::Result<()> {
     program(
+        rt,
         b"SIEVE",
         b"\x16\x02\x15\x01\x00\x00\x00\x02\x16\x10\x00\x00\x00\x02\x10\x02\x00\x00\x00\x02\
           \x00\x02\x00\x00\x00\x08\x00\x02\x11\x01\x00\x00\x00\x04\x10\x10\x15\x02\x12\x00\
@@ -85,7 +93,7 @@ fn sieve() {
           \x09\x33\x00\x0A\x14\x15\x21\x00\x04\x12\x12\x15\x0A\x12\x11\x2B\x00\x05\x12\x11\
           \x15\x0C\x01\x0F\x12\x10\x08\x10\x0D\x0E\x04\x11\x11\x15\x0A\x11\x16\x21\x00\x01",
         &[],
-    );
+    )
 }
 
 // The heights that CONTOUR reads, five rows of five.
@@ -93,8 +101,9 @@ const HEIGHTS: [i32; 25] = [
     0, 3, 7, 4, 1, 2, 8, 12, 9, 3, 5, 11, 18, 13, 6, 3, 9, 14, 10, 2, 1, 4, 6, 3, 0,
 ];
 
-fn contour() {
+fn contour(rt: &(impl Print + AllocGlobal)) -> io::Result<()> {
     program(
+        rt,
         b"CONTOUR",
         b"\x2A\x02\x24\x00\x00\x00\x00\x02\x25\x01\x00\x00\x00\x02\x26\x04\x00\x00\x00\x02\
           \x27\x05\x00\x00\x00\x02\x28\x14\x00\x00\x00\x02\x29\x19\x00\x00\x00\x02\x2A\xFF\
@@ -109,60 +118,64 @@ fn contour() {
           \x66\x00\x04\x1D\x1D\x27\x0A\x1D\x28\x60\x00\x02\x20\x00\x00\x00\x00\x0B\x23\x00\
           \x19\x20\x08\x23\x04\x20\x20\x25\x0A\x20\x29\xD9\x00\x01",
         &HEIGHTS,
-    );
+    )
 }
 
 // 341 times SET 2 and END, 2,048 bytes, and one more; 512 times END and one more; 64 times EXCLUDE
 // and END, and with one EXCLUDE more.
-fn sizes() {
+fn sizes(rt: &impl Print) -> io::Result<()> {
     let mut long = [2u8; 2049];
     long[2047] = 1;
-    row(b"2048 bytes", &long[..2048]);
-    row(b"2049 bytes", &long);
+    row(rt, b"2048 bytes", &long[..2048])?;
+    row(rt, b"2049 bytes", &long)?;
     let mut ends = [1u8; 514];
     ends[0] = 0;
-    row(b"512 commands", &ends[..513]);
-    row(b"513 commands", &ends);
+    row(rt, b"512 commands", &ends[..513])?;
+    row(rt, b"513 commands", &ends)?;
     let mut marks = [13u8; 67];
     marks[0] = 0;
     marks[65] = 1;
-    row(b"64 EXCLUDEs", &marks[..66]);
+    row(rt, b"64 EXCLUDEs", &marks[..66])?;
     marks[65] = 13;
     marks[66] = 1;
-    row(b"65 EXCLUDEs", &marks);
+    row(rt, b"65 EXCLUDEs", &marks)
 }
 
-fn main() {
-    row(b"no bytes", b"");
-    row(b"00 7F", b"\x00\x7F");
-    row(b"00 08", b"\x00\x08");
-    row(b"00 08 01", b"\x00\x08\x01");
-    row(b"00 0B 00 00 02 00", b"\x00\x0B\x00\x00\x02\x00");
-    row(b"00", b"\x00");
-    row(b"00 09 02 00", b"\x00\x09\x02\x00");
-    row(b"00 0D 01", b"\x00\x0D\x01");
+fn main(rt: HostRuntime) -> io::Result<()> {
+    row(&rt, b"no bytes", b"")?;
+    row(&rt, b"00 7F", b"\x00\x7F")?;
+    row(&rt, b"00 08", b"\x00\x08")?;
+    row(&rt, b"00 08 01", b"\x00\x08\x01")?;
+    row(&rt, b"00 0B 00 00 02 00", b"\x00\x0B\x00\x00\x02\x00")?;
+    row(&rt, b"00", b"\x00")?;
+    row(&rt, b"00 09 02 00", b"\x00\x09\x02\x00")?;
+    row(&rt, b"00 0D 01", b"\x00\x0D\x01")?;
     row(
+        &rt,
         b"small plan",
         b"\x02\x02\x00\x00\x00\x00\x00\x07\x01\x04\x00\x00\x01\x08\x00\x0D\x0E\x09\x07\x00",
-    );
-    sizes();
+    )?;
+    sizes(&rt)?;
     sets(
+        &rt,
         b"small plan",
         b"\x02\x02\x00\x00\x00\x00\x00\x07\x01\x04\x00\x00\x01\x08\x00\x0D\x0E\x09\x07\x00",
-    );
-    sets(b"00 0D 01", b"\x00\x0D\x01");
-    sets(b"00 7F", b"\x00\x7F");
+    )?;
+    sets(&rt, b"00 0D 01", b"\x00\x0D\x01")?;
+    sets(&rt, b"00 7F", b"\x00\x7F")?;
     sets(
+        &rt,
         b"PUT of len 1",
         b"\x01\x0D\x0E\x0C\x01\x01\x00\x00\x08\x01\x01",
-    );
+    )?;
     sets(
+        &rt,
         b"PUT of len 2",
         b"\x02\x0D\x0E\x0C\x01\x02\x00\x00\x08\x01\x01",
-    );
-    cell();
-    sieve();
-    contour();
-    journals::rows();
-    runs::rows();
+    )?;
+    cell(&rt)?;
+    sieve(&rt)?;
+    contour(&rt)?;
+    journals::rows(&rt)?;
+    runs::rows(&rt)
 }
