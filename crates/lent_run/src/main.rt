@@ -1,17 +1,19 @@
 // Runs document 01's small plan through `machine`, whose functions take the state by `&mut`: twice a power-up, the
-// second after a cut inside a save. `lend` lends the state, and its walk is by hand; the rest is covered. A line
+// second after a cut inside a save. `lend` lends the state, and its contract says what each call leaves. A line
 // to a call gives its answer, eight registers and the plan's three cells: of recovery 0 or the number of its refusal,
 // of a step or a run how it ended (1 to 3 a stop and its kind, 4 budget spent, 5 no reading left, 6 output buffer
 // full, or `refused` and the number), its steps, readings taken and outputs written. Last stand outputs and chip.
+#![tactic(auto)]
+
 ghost use Rattle.step.specs.State.{env_of};
 ghost use Rattle.lent_run.specs.PowerUp.{PowersUp};
 
 use instruction::byte_at;
 use journal::owners::owner_of;
-use libc::STDOUT_FILENO;
 use machine::Passed;
 use recovery::Recovered;
 use run::Ended;
+use std::io;
 use step::{Regs, State};
 
 // What the calls of a power-up answer, and the state that each leaves.
@@ -77,126 +79,111 @@ fn spoiled() -> State {
     }
 }
 
-fn number(n: u64) {
-    io::write_all(STDOUT_FILENO, b" ");
-    io::print_decimal(STDOUT_FILENO, n);
+fn number(rt: &impl Print, n: u64) -> io::Result<()> {
+    print!(rt; " {n}")
 }
 
 // A signed number.
-fn value(v: i32) {
-    let bits = word::to_bits(v);
-    if v < 0 {
-        io::write_all(STDOUT_FILENO, b" -");
-        io::print_decimal(STDOUT_FILENO, word::sub(0, bits) as u64);
-        return;
-    }
-    number(bits as u64);
+fn value(rt: &impl Print, v: i32) -> io::Result<()> {
+    print!(rt; " {v}")
 }
 
-fn answer(r: Recovered) {
+fn answer(rt: &impl Print, r: Recovered) -> io::Result<()> {
     match r {
-        Recovered::Restored => number(0),
-        Recovered::Refused(n) => number(n as u64),
+        Recovered::Restored => number(rt, 0),
+        Recovered::Refused(n) => number(rt, n as u64),
     }
 }
 
-fn ended(e: Ended) {
+fn ended(rt: &impl Print, e: Ended) -> io::Result<()> {
     match e {
         Ended::Refused(n) => {
-            io::write_all(STDOUT_FILENO, b" refused");
-            number(n as u64);
+            rt.write_all(b" refused")?;
+            number(rt, n as u64)
         }
-        Ended::Stopped(k) => number(k as u64),
-        Ended::Spent => number(4),
-        Ended::NoReading => number(5),
-        Ended::BufferFull => number(6),
+        Ended::Stopped(k) => number(rt, k as u64),
+        Ended::Spent => number(rt, 4),
+        Ended::NoReading => number(rt, 5),
+        Ended::BufferFull => number(rt, 6),
     }
 }
 
-fn passed(p: Passed) {
-    let e = p.ended;
-    ended(e);
-    number(p.steps);
-    number(p.taken as u64);
-    number(p.written as u64);
+fn passed(rt: &impl Print, p: Passed) -> io::Result<()> {
+    ended(rt, p.ended)?;
+    number(rt, p.steps)?;
+    number(rt, p.taken as u64)?;
+    number(rt, p.written as u64)
 }
 
 // The registers in the order of their declaration, but for the page length and the owner, which are no part of the
 // bytes that a host lends, and the three cells.
-fn left(s: State) {
+fn left(rt: &impl Print, s: State) -> io::Result<()> {
     let r = s.regs;
     let cells = s.cells;
-    io::write_all(STDOUT_FILENO, b" registers");
-    number(r.pc as u64);
-    number(r.exclude as u64);
-    number(r.readings as u64);
-    number(r.outputs as u64);
-    number(r.stop as u64);
-    number(r.write as u64);
-    number(r.erase as u64);
-    number(r.saving as u64);
-    io::write_all(STDOUT_FILENO, b" cells");
-    value(word::from_bits(cells[0]));
-    value(word::from_bits(cells[1]));
-    value(word::from_bits(cells[2]));
-    io::write_all(STDOUT_FILENO, b"\n");
+    rt.write_all(b" registers")?;
+    number(rt, r.pc as u64)?;
+    number(rt, r.exclude as u64)?;
+    number(rt, r.readings as u64)?;
+    number(rt, r.outputs as u64)?;
+    number(rt, r.stop as u64)?;
+    number(rt, r.write as u64)?;
+    number(rt, r.erase as u64)?;
+    number(rt, r.saving as u64)?;
+    rt.write_all(b" cells")?;
+    value(rt, word::from_bits(cells[0]))?;
+    value(rt, word::from_bits(cells[1]))?;
+    value(rt, word::from_bits(cells[2]))?;
+    rt.write_all(b"\n")
 }
 
-fn calls(p: Powered) {
-    let recovered = p.recovered;
-    io::write_all(STDOUT_FILENO, b"recover:");
-    answer(recovered);
-    let found = p.found;
-    left(found);
-    let first = p.first;
-    io::write_all(STDOUT_FILENO, b"step:");
-    passed(first);
-    let stepped = p.stepped;
-    left(stepped);
-    let rest = p.rest;
-    io::write_all(STDOUT_FILENO, b"run:");
-    passed(rest);
-    let state = p.state;
-    left(state);
+fn calls(rt: &impl Print, p: Powered) -> io::Result<()> {
+    rt.write_all(b"recover:")?;
+    answer(rt, p.recovered)?;
+    left(rt, p.found)?;
+    rt.write_all(b"step:")?;
+    passed(rt, p.first)?;
+    left(rt, p.stepped)?;
+    rt.write_all(b"run:")?;
+    passed(rt, p.rest)?;
+    left(rt, p.state)
 }
 
-fn outputs_given(outputs: &[i32; 3]) {
-    io::write_all(STDOUT_FILENO, b"outputs");
-    value(outputs[0]);
-    value(outputs[1]);
-    value(outputs[2]);
-    io::write_all(STDOUT_FILENO, b"\n");
+fn outputs_given(rt: &impl Print, outputs: &[i32; 3]) -> io::Result<()> {
+    rt.write_all(b"outputs")?;
+    value(rt, outputs[0])?;
+    value(rt, outputs[1])?;
+    value(rt, outputs[2])?;
+    rt.write_all(b"\n")
 }
 
 // A byte of the chip in two hexadecimal digits, as document 01 writes a save.
-fn byte(chip: &[u8], at: usize) {
-    io::write_all(STDOUT_FILENO, b" ");
-    io::print_hex(STDOUT_FILENO, byte_at(chip, at) as u64, 2);
+fn byte(rt: &impl Print, chip: &[u8], at: usize) -> io::Result<()> {
+    print!(rt; " {:02x}", byte_at(chip, at))
 }
 
-fn four(chip: &[u8], at: u32) {
+fn four(rt: &impl Print, chip: &[u8], at: u32) -> io::Result<()> {
     let k = at as usize;
-    byte(chip, k);
-    byte(chip, k + 1);
-    byte(chip, k + 2);
-    byte(chip, k + 3);
+    byte(rt, chip, k)?;
+    byte(rt, chip, k + 1)?;
+    byte(rt, chip, k + 2)?;
+    byte(rt, chip, k + 3)
 }
 
 // The 24 bytes that a save of the small plan takes.
-fn save(chip: &[u8], at: u16) {
+fn save(rt: &impl Print, chip: &[u8], at: u16) -> io::Result<()> {
     let k = at as u32;
-    io::write_all(STDOUT_FILENO, b"chip");
-    four(chip, k);
-    four(chip, k + 4);
-    four(chip, k + 8);
-    four(chip, k + 12);
-    four(chip, k + 16);
-    four(chip, k + 20);
-    io::write_all(STDOUT_FILENO, b"\n");
+    rt.write_all(b"chip")?;
+    four(rt, chip, k)?;
+    four(rt, chip, k + 4)?;
+    four(rt, chip, k + 8)?;
+    four(rt, chip, k + 12)?;
+    four(rt, chip, k + 16)?;
+    four(rt, chip, k + 20)?;
+    rt.write_all(b"\n")
 }
 
 // The small plan on this chip, from any state.
-fn power_up(readings: &[i32], chip: &mut [u8; 72], budget: u64) {
+fn power_up(rt: &impl Print, readings: &[i32], chip: &mut [u8; 72], budget: u64) -> io::Result<()> {
     let mut sets = [0u64; 512];
     sets[0] = 6;
     sets[4] = 4;
@@ -212,17 +199,17 @@ fn power_up(readings: &[i32], chip: &mut [u8; 72], budget: u64) {
         budget,
         owner_of(plan),
     );
-    calls(p);
-    outputs_given(&outputs);
-    save(chip, 0);
-    save(chip, 24);
-    save(chip, 48);
+    calls(rt, p)?;
+    outputs_given(rt, &outputs)?;
+    save(rt, chip, 0)?;
+    save(rt, chip, 24)?;
+    save(rt, chip, 48)
 }
 
 // The first budget ends where 33 bytes of saves are stored, 24 of the first and 9 of the second. The first save counts
 // one reading, so after the cut the host lends from the second one on.
-fn main() {
+fn main(rt: HostRuntime) -> io::Result<()> {
     let mut chip = [0xffu8; 72];
-    power_up(&[5, 7, -2], &mut chip, 44);
-    power_up(&[7, -2], &mut chip, 1000);
+    power_up(&rt, &[5, 7, -2], &mut chip, 44)?;
+    power_up(&rt, &[7, -2], &mut chip, 1000)
 }
