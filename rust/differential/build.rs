@@ -15,7 +15,7 @@ fn main() {
     println!("cargo:rerun-if-changed={}", archive.display());
     let Ok(archive) = archive.canonicalize() else {
         eprintln!("error: the library {} is missing.", archive.display());
-        eprintln!("Make it with `rt staticlib pitskelo` in the repository's root,");
+        eprintln!("Make it with `tools/library` in the repository's root,");
         eprintln!("or name the folder that holds it in PITSKELO_LIB_DIR (an absolute path).");
         exit(1);
     };

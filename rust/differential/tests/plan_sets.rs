@@ -14,7 +14,7 @@ fn program() -> PathBuf {
     let program = Path::new(env!("CARGO_MANIFEST_DIR")).join("../../target/bin/plan_sets");
     assert!(
         program.exists(),
-        "make it with `rt check plan_sets` in the repository's root"
+        "make it with `tools/library` in the repository's root"
     );
     program
 }
