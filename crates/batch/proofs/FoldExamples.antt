@@ -81,6 +81,11 @@ pub old-shape : Shape (byte_facts unowned set_point) old_chip (save_both unowned
 unfolding computing old_sets old_cut old_chip
 old-shape = shape-by (byte_facts unowned set_point) old_chip (save_both unowned 5 0 1 0 ∷ []) (save_both unowned 7 5 2 1) 10 refl
 
+-- it reads as the first save, with 10 bytes to erase
+pub old-taken : Taken (byte_facts unowned set_point) old_chip 26 10 old_last true old_values
+unfolding old_values
+old-taken = both-taken old_chip 0 old-shape
+
 pub old-holds : Holds set_point old_chip unowned 26 10 old_last old_values
 unfolding old_values
 old-holds = both-holds old_chip 0 old-shape

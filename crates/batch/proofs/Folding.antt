@@ -1,6 +1,6 @@
 -- A list may go on with a folded chip: where the old one can be taken up, a finished new one can be too, its marks naming the plan, and holds the same (`folded-taken`), and so one
--- that was folded and noted any number of times (`passed-taken`). Where it can be taken up it can be folded (`taken-foldable`), and a finished new one recovers to the state that
--- the old one gives (`folded-recovers`). The old chip's marks may be `A2`, which name no plan.
+-- that was folded any number of times (`passed-taken`), with notes between too (`noted-passed-taken`). Where it can be taken up it can be folded (`taken-foldable`), and a finished
+-- new one recovers to the state that the old one gives (`folded-recovers`). The old chip's marks may be `A2`, which name no plan.
 -- Assumes nothing.
 use Prim.Native.Nat.{ℕ, ◌≤◌, ◌<◌}
 use mathlib.Core.Path.{◌≡◌, refl, sym, ◌∙◌, ap, subst}
@@ -41,7 +41,8 @@ use Rattle.restart.proofs.Effects.{live-exists}
 use Rattle.restart.proofs.Commits.{last-start}
 use Rattle.restart.proofs.Outcomes.{values_of, values-some}
 use Rattle.batch.specs.Batch.{Passed, Foldable}
-use Rattle.batch.proofs.Noting.{noted-taken}
+use Rattle.batch.specs.Noting.{NotedPassed}
+use Rattle.batch.proofs.Noting.{noted-taken, passed-noted}
 
 -- ---- the two kinds of mark
 
@@ -102,17 +103,24 @@ module _ {p : List ℕ} (plan : Plan p) (f : Frame) where
       }
 
   -- the last chip's marks name the plan or none, as those of the first do
-  pub passed-names : {page owner : ℕ} {chip : List ℕ} {named : ℕ} {l : List ℕ} → Names p owner → Passed page p owner chip named l → Names p named
-  passed-names names Passed.as_left = names
-  passed-names names (Passed.folded h e d) = inl refl
-  passed-names names (Passed.noted h d) = passed-names names h
+  pub noted-passed-names : {page owner : ℕ} {chip : List ℕ} {named : ℕ} {l : List ℕ} → Names p owner → NotedPassed page p owner chip named l → Names p named
+  noted-passed-names names NotedPassed.as_left = names
+  noted-passed-names names (NotedPassed.folded h e d) = inl refl
+  noted-passed-names names (NotedPassed.noted h d) = noted-passed-names names h
 
-  pub passed-taken : {page owner : ℕ} {chip : List ℕ} {named : ℕ} {l : List ℕ} → Names p owner → TakenUp page owner p f chip → Passed page p owner chip named l → TakenUp page named p f l
-  passed-taken names u Passed.as_left = u
-  passed-taken names u (Passed.folded {named} {l} {new} h e d) =
+  pub noted-passed-taken : {page owner : ℕ} {chip : List ℕ} {named : ℕ} {l : List ℕ} → Names p owner → TakenUp page owner p f chip → NotedPassed page p owner chip named l → TakenUp page named p f l
+  noted-passed-taken names u NotedPassed.as_left = u
+  noted-passed-taken names u (NotedPassed.folded {named} {l} {new} h e d) =
       subst (λ (k : ℕ). TakenUp k (owner_of_plan p) p f new) (sym e)
-      (folded-taken (passed-names names h) (subst (λ (k : ℕ). TakenUp k named p f l) e (passed-taken names u h)) d)
-  passed-taken names u (Passed.noted h d) = noted-taken plan f (passed-taken names u h) d
+      (folded-taken (noted-passed-names names h) (subst (λ (k : ℕ). TakenUp k named p f l) e (noted-passed-taken names u h)) d)
+  noted-passed-taken names u (NotedPassed.noted h d) = noted-taken plan f (noted-passed-taken names u h) d
+
+  -- without notes
+  pub passed-names : {page owner named : ℕ} {chip l : List ℕ} → Names p owner → Passed page p owner chip named l → Names p named
+  passed-names names g = noted-passed-names names (passed-noted g)
+
+  pub passed-taken : {page owner named : ℕ} {chip l : List ℕ} → Names p owner → TakenUp page owner p f chip → Passed page p owner chip named l → TakenUp page named p f l
+  passed-taken names u g = noted-passed-taken names u (passed-noted g)
 
 -- ---- what can be taken up can be folded
 

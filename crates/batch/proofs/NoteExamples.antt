@@ -35,9 +35,10 @@ use Rattle.restart.proofs.Computing.{computing}
 use Rattle.restart.proofs.Shaped.{shape-by}
 use Rattle.restart.proofs.Examples.{spoiled, tally_of, output, begun, request, beginning}
 use Rattle.batch.specs.Until.{EitherSets}
-use Rattle.batch.specs.Batch.{BatchClaim, Passed, Batch}
+use Rattle.batch.specs.Batch.{BatchClaim}
+use Rattle.batch.specs.Noting.{NotedPassed, NotedBatch}
 use Rattle.batch.proofs.Taking.{widens}
-use Rattle.batch.proofs.Theorem.{batches, q-14}
+use Rattle.batch.proofs.Theorem.{noted-batches, q-14}
 use Rattle.batch.proofs.Examples.{set_point, set-point-plan, now-dead, old_sets, old-found, new_sets, new-found, trial_on, trial_with, set_point_readings, save_both, save_one, old_cut, old-list, torn-trimmed}
 use Rattle.batch.proofs.FoldExamples.{old_last, both-holds, old_chip, old-shape, Onward, begun_on, begun-on}
 
@@ -115,8 +116,8 @@ pub note-finished : Finished set_point noted_chip note_folded
 note-finished = record { size = 54; before = replicate 54 0xFF; list = Folding.blank; words = new_sets; stored = 0; budget = 100; count = 30; call = fold-call }
 
 -- from the chip that the old list left
-pub note-passed : Passed 1 set_point unowned old_chip (owner_of_plan set_point) note_folded
-note-passed = Passed.folded (Passed.noted Passed.as_left old-noted) refl note-finished
+pub note-passed : NotedPassed 1 set_point unowned old_chip (owner_of_plan set_point) note_folded
+note-passed = NotedPassed.folded (NotedPassed.noted NotedPassed.as_left old-noted) refl note-finished
 
 -- ---- the list that goes on with it
 
@@ -150,15 +151,15 @@ old-words : (w : List ℕ) → w ≡ old_sets → EitherSets set_point w
 old-words w e = subst (EitherSets set_point) (sym e) (inr old-found)
 
 -- the old list is a batch
-old-batch : Batch set_point set_point_readings 1 (EitherSets set_point) unowned 60 0 [] 0 old_cut
-old-batch = Batch.begins (inr refl) (widens old-words old-list)
+old-batch : NotedBatch set_point set_point_readings 1 (EitherSets set_point) unowned 60 0 [] 0 old_cut
+old-batch = NotedBatch.begins (inr refl) (widens old-words old-list)
 
 -- both lists are one, and together they give 5 and 7, as the uncut run does
 pub noted-claim : BatchClaim set_point set_point_readings 1 (owner_of_plan set_point) (length note_folded) old_cut.tally.committed (EitherSets set_point) ([] ++ old_cut.outputs) (max 0 old_cut.tally.highest) noted_done
 unfolding old_chip
 noted-claim =
-    batches 1 set_point set-point-plan set_point_readings (owner_of_plan set_point) (length note_folded) old_cut.tally.committed (max 0 old_cut.tally.highest) ([] ++ old_cut.outputs) noted_done
-    (Batch.onward old-batch (owner_of_plan set_point) note_folded note-passed noted-list)
+    noted-batches 1 set_point set-point-plan set_point_readings (owner_of_plan set_point) (length note_folded) old_cut.tally.committed (max 0 old_cut.tally.highest) ([] ++ old_cut.outputs) noted_done
+    (NotedBatch.onward old-batch (owner_of_plan set_point) note_folded note-passed noted-list)
 
 -- every list that goes on with the folded chip gives what the uncut run gives from the state that document 01's recovery makes of the chip without the note
 pub noted-from : (m : Machine) → m.journal ≡ old_chip → (a : recovery.Outcome) → Recovers (env_of set_point new_sets) 1 unowned m a → a.answer ≡ Restored
@@ -166,8 +167,8 @@ pub noted-from : (m : Machine) → m.journal ≡ old_chip → (a : recovery.Outc
     → Claim set_point set_point_readings (frame_of a.machine) (length note_folded) 0 (EitherSets set_point) 1 (owner_of_plan set_point) s
 unfolding old_chip
 noted-from m j a x r s h =
-    q-14 1 set_point set-point-plan set_point_readings unowned 60 0 0 [] old_cut old-batch unowned old_chip Passed.as_left m j new_sets a x r noted_chip old-noted (owner_of_plan set_point)
-    note_folded (Passed.folded Passed.as_left refl note-finished) s h
+    q-14 1 set_point set-point-plan set_point_readings unowned 60 0 0 [] old_cut old-batch unowned old_chip NotedPassed.as_left m j new_sets a x r noted_chip old-noted (owner_of_plan set_point)
+    note_folded (NotedPassed.folded NotedPassed.as_left refl note-finished) s h
 
 -- ---- on a page chip, whose marks name the plan
 
@@ -223,5 +224,5 @@ page-facts = (refl, refl, refl, refl, refl)
 pub page-claim : BatchClaim set_point set_point_readings 16 (owner_of_plan set_point) (length page_noted) page_cut.tally.committed (EitherSets set_point) ([] ++ page_cut.outputs) (max 0 page_cut.tally.highest) page_done
 unfolding page_chip
 page-claim =
-    batches 16 set_point set-point-plan set_point_readings (owner_of_plan set_point) (length page_noted) page_cut.tally.committed (max 0 page_cut.tally.highest) ([] ++ page_cut.outputs) page_done
-    (Batch.onward (Batch.begins (inl refl) (widens old-words page-list)) (owner_of_plan set_point) page_noted (Passed.noted Passed.as_left page-noted) page-onward)
+    noted-batches 16 set_point set-point-plan set_point_readings (owner_of_plan set_point) (length page_noted) page_cut.tally.committed (max 0 page_cut.tally.highest) ([] ++ page_cut.outputs) page_done
+    (NotedBatch.onward (NotedBatch.begins (inl refl) (widens old-words page-list)) (owner_of_plan set_point) page_noted (NotedPassed.noted NotedPassed.as_left page-noted) page-onward)

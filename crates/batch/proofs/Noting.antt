@@ -1,16 +1,21 @@
--- A list may go on with a chip that has a note: where a chip can be taken up, one with a note in a spent cell can be too, at the same place (`noted-taken`).
+-- A list may go on with a chip that has a note: where a chip can be taken up, one with a note in a spent cell can be too, at the same place (`noted-taken`). Chips that are passed on
+-- without notes, and batches without them, are among those with notes (`passed-noted`, `batch-noted`).
 -- Assumes nothing.
 use Prim.Native.Nat.{ℕ}
 use mathlib.Core.Path.{◌≡◌, sym, ◌∙◌, ap, subst}
 use mathlib.Core.List.{List}
+use lib.IntN.{ℤ}
 use Rattle.analysis.specs.Paths.{Live, Region}
 use Rattle.journal.specs.declared.Commit.{Commit}
 use Rattle.journal.specs.Reading.{first, last_of, saved_value}
 use Rattle.journal.specs.Format.{Checkpoint}
-use Rattle.restart.specs.Reference.{Frame}
+use Rattle.restart.specs.Reference.{Frame, Numbered}
+use Rattle.restart.specs.History.{System}
 use Rattle.restart.specs.Claim.{Plan, Resumes, TakenUp}
 use Rattle.notes.specs.Notes.{Noted}
 use Rattle.notes.proofs.Noting.{noted-kept}
+use Rattle.batch.specs.Batch.{Passed, Batch}
+use Rattle.batch.specs.Noting.{NotedPassed, NotedBatch}
 
 -- checkpoints with the same last commit, and the same values of the cells that are live there, take a run up at the same place
 resumes-kept : {p : List ℕ} {f : Frame} {js js' : List Checkpoint} → last_of first js' ≡ last_of first js
@@ -36,3 +41,16 @@ noted-taken {owner = owner} plan f u n =
       owned = record { all = k.own owner ∙ u.owned.all; fits = u.owned.fits };
       resumes = resumes-kept k.last k.values u.resumes;
     }
+
+-- ---- without notes
+
+-- a chip that is passed on without notes
+pub passed-noted : {page : ℕ} {p : List ℕ} {owner : ℕ} {chip : List ℕ} {named : ℕ} {l : List ℕ} → Passed page p owner chip named l → NotedPassed page p owner chip named l
+passed-noted Passed.as_left = NotedPassed.as_left
+passed-noted (Passed.folded h e d) = NotedPassed.folded (passed-noted h) e d
+
+-- lists between which there are none
+pub batch-noted : {p : List ℕ} {ρ : List ℤ} {page : ℕ} {Words : List ℕ → Type 0} {owner n t₀ : ℕ} {before : List Numbered} {high : ℕ} {s : System}
+    → Batch p ρ page Words owner n t₀ before high s → NotedBatch p ρ page Words owner n t₀ before high s
+batch-noted (Batch.begins names h) = NotedBatch.begins names h
+batch-noted (Batch.onward b named chip g h) = NotedBatch.onward (batch-noted b) named chip (passed-noted g) h

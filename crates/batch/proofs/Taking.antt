@@ -25,7 +25,7 @@ use Rattle.restart.specs.Claim.{Plan, TakenUp}
 use Rattle.restart.proofs.Effects.{live-exists}
 use Rattle.restart.proofs.Commits.{last-start}
 use Rattle.restart.proofs.Upheld.{Lasting}
-use Rattle.batch.specs.Batch.{frame_read}
+use Rattle.batch.specs.Noting.{frame_read}
 
 module _ {p : List ℕ} {ρ : List ℤ} {f₀ : Frame} {page owner n t₀ : ℕ} {s : System} where
   -- the chip of any system that a list reaches

@@ -1,6 +1,6 @@
 -- THE CLAIMS OF LISTS THAT FOLLOW ONE ANOTHER: `q_3` of a list that goes on with an old chip under today's sets, `q-3-any-time` of one list with sets of either day, `batches` of any
--- number of lists with folding and notes between them, `q-14` and `q-14-read` of a list that goes on with a note, begun with what the unchanged chip gives. These for every page length;
--- `always-foldable` and `q-8` of byte chips.
+-- number of lists with folding between them, `noted-batches` with notes too, `q-14` and `q-14-read` of a list that goes on with a note, begun with what the unchanged chip gives. These
+-- for every page length; `always-foldable`, `noted-foldable` and `q-8` of byte chips.
 -- Assumes nothing.
 use Prim.Native.Nat.{ℕ, ◌≤◌, max}
 use mathlib.Core.Path.{◌≡◌, refl, sym, ◌∙◌, subst}
@@ -23,11 +23,12 @@ use Rattle.restart.proofs.Sets.{found-safe}
 use Rattle.restart.proofs.Upheld.{Lasting}
 use Rattle.restart.proofs.Theorem.{upheld, claim, names-fits, erased-taken}
 use Rattle.batch.specs.Until.{EitherSets}
-use Rattle.batch.specs.Batch.{BatchClaim, Q3, Q3AnyTime, Passed, Batch, begins, onward, Batches, AlwaysFoldable, Q8, frame_read, Q14Read, Q14}
+use Rattle.batch.specs.Batch.{BatchClaim, Q3, Q3AnyTime, Passed, Batch, Batches, AlwaysFoldable, Q8}
+use Rattle.batch.specs.Noting.{NotedPassed, NotedBatch, begins, onward, NotedBatches, NotedFoldable, frame_read, Q14Read, Q14}
 use Rattle.batch.proofs.Growing.{until-safe, either-safe}
 use Rattle.batch.proofs.Taking.{left-taken, takes-up, takes-from, read_taken, restored-read}
-use Rattle.batch.proofs.Folding.{passed-names, passed-taken, folded-taken, taken-foldable, folded-recovers}
-use Rattle.batch.proofs.Noting.{noted-taken}
+use Rattle.batch.proofs.Folding.{noted-passed-names, noted-passed-taken, folded-taken, taken-foldable, folded-recovers}
+use Rattle.batch.proofs.Noting.{noted-taken, passed-noted, batch-noted}
 use Rattle.batch.proofs.Joining.{joined}
 
 -- the lists before gave these outputs, up to the highest tally, and a list goes on at t with a chip that can be taken up there
@@ -78,25 +79,25 @@ module _ (p : List ℕ) (ρ : List ℤ) (plan : Plan p) (page : ℕ) (Words : Li
     pub claimed : BatchClaim p ρ page owner n t₀ Words before high s
 
   -- its chip, passed on, can be taken up
-  pub onward-takes : {owner named n t₀ : ℕ} {s : System} → Names p owner → Lasting p ρ zeros page owner n t₀ s → (chip : List ℕ) → Passed page p owner s.machine.journal named chip
+  pub noted-onward-takes : {owner named n t₀ : ℕ} {s : System} → Names p owner → Lasting p ρ zeros page owner n t₀ s → (chip : List ℕ) → NotedPassed page p owner s.machine.journal named chip
       → (l : List ℕ) → l ≡ chip → TakenUp page named p (ref_at p ρ zeros s.tally.committed) l
-  onward-takes {named = named} {s = s} names l chip g =
-      takes-up p ρ zeros page named s.tally.committed chip (passed-taken plan (ref_at p ρ zeros s.tally.committed) names (left-taken l) g)
+  noted-onward-takes {named = named} {s = s} names l chip g =
+      takes-up p ρ zeros page named s.tally.committed chip (noted-passed-taken plan (ref_at p ρ zeros s.tally.committed) names (left-taken l) g)
 
-  batch-upheld : {owner n t₀ high : ℕ} {before : List Numbered} {s : System} → Batch p ρ page Words owner n t₀ before high s → Upheld owner n t₀ before high s
-  batch-upheld (begins {owner} {n} {s} names h) =
+  noted-batch-upheld : {owner n t₀ high : ℕ} {before : List Numbered} {s : System} → NotedBatch p ρ page Words owner n t₀ before high s → Upheld owner n t₀ before high s
+  noted-batch-upheld (begins {owner} {n} {s} names h) =
       let takes = erased-taken p ρ page owner n (names-fits p owner names) in
       record {
         names = names;
         lasting = lasts p ρ plan page owner n 0 (Erased n) takes Words safe h;
         claimed = goes_on p ρ plan page owner n 0 (Erased n) takes Words safe [] 0 (none_yet p ρ) (omega arith) h;
       }
-  batch-upheld (onward {owner} {n} {t₀} {high} {before} {s} b named chip g {s'} h) =
-      let u = batch-upheld b in
+  noted-batch-upheld (onward {owner} {n} {t₀} {high} {before} {s} b named chip g {s'} h) =
+      let u = noted-batch-upheld b in
       let t = s.tally.committed in
-      let takes = onward-takes u.names u.lasting chip g in
+      let takes = noted-onward-takes u.names u.lasting chip g in
       record {
-        names = passed-names plan (ref_at p ρ zeros t) u.names g;
+        names = noted-passed-names plan (ref_at p ρ zeros t) u.names g;
         lasting = lasts p ρ plan page named (length chip) t (λ l. l ≡ chip) takes Words safe h;
         claimed =
             goes_on p ρ plan page named (length chip) t (λ l. l ≡ chip) takes Words safe (before ++ s.outputs) (max high s.tally.highest) u.claimed.outputs
@@ -104,25 +105,47 @@ module _ (p : List ℕ) (ρ : List ℤ) (plan : Plan p) (page : ℕ) (Words : Li
       }
 
   -- THE CLAIM HOLDS OF EVERY BATCH
-  pub batch-claim : {owner n t₀ high : ℕ} {before : List Numbered} {s : System} → Batch p ρ page Words owner n t₀ before high s → BatchClaim p ρ page owner n t₀ Words before high s
-  batch-claim b = (batch-upheld b).claimed
+  pub noted-batch-claim : {owner n t₀ high : ℕ} {before : List Numbered} {s : System} → NotedBatch p ρ page Words owner n t₀ before high s → BatchClaim p ρ page owner n t₀ Words before high s
+  noted-batch-claim b = (noted-batch-upheld b).claimed
 
   -- and its chip lasts, with marks that name the plan or none
+  pub noted-batch-lasts : {owner n t₀ high : ℕ} {before : List Numbered} {s : System} → NotedBatch p ρ page Words owner n t₀ before high s → Lasting p ρ zeros page owner n t₀ s
+  noted-batch-lasts b = (noted-batch-upheld b).lasting
+
+  pub noted-batch-names : {owner n t₀ high : ℕ} {before : List Numbered} {s : System} → NotedBatch p ρ page Words owner n t₀ before high s → Names p owner
+  noted-batch-names b = (noted-batch-upheld b).names
+
+pub noted-batches : (page : ℕ) → NotedBatches page
+noted-batches page p plan ρ owner n t₀ high before s b = noted-batch-claim p ρ plan page (EitherSets p) (either-safe plan) b
+
+pub noted-foldable : NotedFoldable
+noted-foldable p plan ρ owner n t₀ high before s b named chip g =
+    let l = noted-batch-lasts p ρ plan 1 (EitherSets p) (either-safe plan) b in
+    let names = noted-batch-names p ρ plan 1 (EitherSets p) (either-safe plan) b in
+    let f = ref_at p ρ zeros s.tally.committed in
+    taken-foldable plan (noted-passed-names plan f names g) (noted-passed-taken plan f names (left-taken l) g)
+
+-- ---- without notes
+
+module _ (p : List ℕ) (ρ : List ℤ) (plan : Plan p) (page : ℕ) (Words : List ℕ → Type 0) (safe : (w : List ℕ) → Words w → Safe p w) where
+  pub onward-takes : {owner named n t₀ : ℕ} {s : System} → Names p owner → Lasting p ρ zeros page owner n t₀ s → (chip : List ℕ) → Passed page p owner s.machine.journal named chip
+      → (l : List ℕ) → l ≡ chip → TakenUp page named p (ref_at p ρ zeros s.tally.committed) l
+  onward-takes names l chip g = noted-onward-takes p ρ plan page Words safe names l chip (passed-noted g)
+
+  pub batch-claim : {owner n t₀ high : ℕ} {before : List Numbered} {s : System} → Batch p ρ page Words owner n t₀ before high s → BatchClaim p ρ page owner n t₀ Words before high s
+  batch-claim b = noted-batch-claim p ρ plan page Words safe (batch-noted b)
+
   pub batch-lasts : {owner n t₀ high : ℕ} {before : List Numbered} {s : System} → Batch p ρ page Words owner n t₀ before high s → Lasting p ρ zeros page owner n t₀ s
-  batch-lasts b = (batch-upheld b).lasting
+  batch-lasts b = noted-batch-lasts p ρ plan page Words safe (batch-noted b)
 
   pub batch-names : {owner n t₀ high : ℕ} {before : List Numbered} {s : System} → Batch p ρ page Words owner n t₀ before high s → Names p owner
-  batch-names b = (batch-upheld b).names
+  batch-names b = noted-batch-names p ρ plan page Words safe (batch-noted b)
 
 pub batches : (page : ℕ) → Batches page
 batches page p plan ρ owner n t₀ high before s b = batch-claim p ρ plan page (EitherSets p) (either-safe plan) b
 
 pub always-foldable : AlwaysFoldable
-always-foldable p plan ρ owner n t₀ high before s b named chip g =
-    let l = batch-lasts p ρ plan 1 (EitherSets p) (either-safe plan) b in
-    let names = batch-names p ρ plan 1 (EitherSets p) (either-safe plan) b in
-    let f = ref_at p ρ zeros s.tally.committed in
-    taken-foldable plan (passed-names plan f names g) (passed-taken plan f names (left-taken l) g)
+always-foldable p plan ρ owner n t₀ high before s b named chip g = noted-foldable p plan ρ owner n t₀ high before s (batch-noted b) named chip (passed-noted g)
 
 -- ---- Q-8
 
@@ -144,17 +167,17 @@ q-8 p plan ρ n s h =
 -- ---- Q-14, begun with what the unchanged chip gives
 
 module _ (p : List ℕ) (ρ : List ℤ) (plan : Plan p) (page : ℕ) (Words : List ℕ → Type 0) (safe : (w : List ℕ) → Words w → Safe p w) {owner n t₀ high : ℕ} {before : List Numbered} {s : System}
-    (b : Batch p ρ page Words owner n t₀ before high s) {named : ℕ} {chip : List ℕ} (g : Passed page p owner s.machine.journal named chip) where
+    (b : NotedBatch p ρ page Words owner n t₀ before high s) {named : ℕ} {chip : List ℕ} (g : NotedPassed page p owner s.machine.journal named chip) where
   -- the chip with a note, passed on, can be taken up there
   pub noted-takes : {end torn after : ℕ} {last : Commit} {own : Bool} {values changed : List ℕ} → Taken (facts_of (format_for page named) p) chip end torn last own values
-      → Noted page named p chip changed → (next : List ℕ) → Passed page p named changed after next → (l : List ℕ) → l ≡ next
+      → Noted page named p chip changed → (next : List ℕ) → NotedPassed page p named changed after next → (l : List ℕ) → l ≡ next
       → TakenUp page after p (ref_at p ρ (frame_read last values) 0) l
   noted-takes {after = after} {last = last} {values = values} t d next k =
       let f = ref_at p ρ zeros s.tally.committed in
       let at = frame_read last values in
-      let names = batch-names p ρ plan page Words safe b in
-      let up = passed-taken plan f names (left-taken (batch-lasts p ρ plan page Words safe b)) g in
-      takes-from p ρ at page after next (passed-taken plan at (passed-names plan f names g) (noted-taken plan at (read_taken plan up t) d) k)
+      let names = noted-batch-names p ρ plan page Words safe b in
+      let up = noted-passed-taken plan f names (left-taken (noted-batch-lasts p ρ plan page Words safe b)) g in
+      takes-from p ρ at page after next (noted-passed-taken plan at (noted-passed-names plan f names g) (noted-taken plan at (read_taken plan up t) d) k)
 
 pub q-14-read : (page : ℕ) → Q14Read page
 q-14-read page p plan ρ owner n t₀ high before s b named chip g end torn last own values t changed d after next k s' h =

@@ -1,14 +1,11 @@
--- Lists of calls that follow one another on one batch: a list goes on with the chip that the list before it left, as it is, folded, or with notes in spent cells. Document 02, Q-3,
--- Q-6, Q-8 and Q-14.
+-- Lists of calls that follow one another on one batch: a list goes on with the chip that the list before it left, as it is or folded. Document 02, Q-3, Q-6 and Q-8.
 -- Assumes nothing.
-use Rattle.std.specs.Prelude.{ℕ, ◌≤◌, max, ◌≡◌, List, [], ◌++◌, Bool, ◌⊎◌, ℤ, length}
-use Rattle.restart.specs.Reference.{Frame, frame_of, Numbered, zeros, ref_at, emitted}
+use Rattle.std.specs.Prelude.{ℕ, ◌≤◌, max, ◌≡◌, List, [], ◌++◌, ◌⊎◌, ℤ, length}
+use Rattle.restart.specs.Reference.{Numbered, zeros, ref_at, emitted}
 use Rattle.restart.specs.History.{System, History}
 use Rattle.restart.specs.Claim.{Plan, Erased, distinct, Found, Claim, Names}
 use Rattle.journal.specs.declared.Commit.{Commit}
-use Rattle.journal.specs.Format.{unowned, owner_of_plan, format_for}
-use Rattle.journal.specs.Reading.{facts_of}
-use Rattle.journal.specs.Answer.{Taken}
+use Rattle.journal.specs.Format.{unowned, owner_of_plan}
 use Rattle.step.specs.State.{env_of, Machine}
 use Rattle.recovery.specs.Recover as recovery
 use Rattle.recovery.specs.Recover.{Recovers}
@@ -16,7 +13,6 @@ use Rattle.recovery.specs.declared.Recovered.TheVariants.{Restored}
 use Rattle.folding.specs.declared.Folded.TheVariants.{Refused}
 use Rattle.folding.specs.Fold.{Holds, Outcome, Folds}
 use Rattle.folding.specs.Lists.{SameState, Finished}
-use Rattle.notes.specs.Notes.{Noted}
 use Rattle.batch.specs.Until.{must_until, FoundBy, EitherSets}
 
 -- of a list that goes on at the tally t₀ with a chip that lists before it left, whose outputs were `before` and whose highest tally was `high`
@@ -44,15 +40,13 @@ Q3AnyTime page =
     (p : List ℕ) → Plan p → (owner : ℕ) → Names p owner → (ρ : List ℤ) (n : ℕ) (s : System) → History p ρ page owner n 0 (Erased n) (EitherSets p) s
     → Claim p ρ zeros n 0 (EitherSets p) page owner s
 
--- ---- Q-6, Q-8 and Q-14
+-- ---- Q-6 and Q-8
 
--- what is done with a chip, whose marks name `owner`, between two lists, as often as is wanted: nothing; or it is folded onto another ("Both are byte chips"), whose marks then
--- name the plan ("folding reads such a byte chip and writes `A3`"); or a note is put on it ("change the four value bytes of any record, in a whole save, whose cell is dead at the
--- CHECKPOINT of the last whole save")
+-- what is done with a chip, whose marks name `owner`, between two lists: nothing, or it is folded onto another ("Both are byte chips"), as often as is wanted, whose marks then
+-- name the plan ("folding reads such a byte chip and writes `A3`")
 pub data Passed (page : ℕ) (p : List ℕ) (owner : ℕ) (chip : List ℕ) : (named : ℕ) → List ℕ → Type 0 where
   as_left : Passed page p owner chip owner chip
   folded : {named : ℕ} {l new : List ℕ} → Passed page p owner chip named l → page ≡ 1 → Finished p l new → Passed page p owner chip (owner_of_plan p) new
-  noted : {named : ℕ} {l new : List ℕ} → Passed page p owner chip named l → Noted page named p l new → Passed page p owner chip named new
 
 -- lists one after the other, of which the last has come to a system: `owner` is what its chip's marks name, n and t₀ are its chip's length and its tally at first, `before` the
 -- outputs of the lists before it and `high` their highest tally
@@ -64,8 +58,8 @@ module _ (p : List ℕ) (ρ : List ℤ) (page : ℕ) (Words : List ℕ → Type 
         → {s' : System} → History p ρ page named (length chip) s.tally.committed (λ l. l ≡ chip) Words s'
         → Batch named (length chip) s.tally.committed (before ++ s.outputs) (max high s.tally.highest) s'
 
--- "recovering old or finished new must give the same state", so a batch goes on with the new chip: whatever is folded and noted between the lists, on chips of whatever lengths,
--- with either kind of mark at first and under the sets of either day, no output is skipped, and they are the uncut run's
+-- "recovering old or finished new must give the same state", so a batch goes on with the new chip: whatever is folded between the lists, on chips of whatever lengths, with either
+-- kind of mark at first and under the sets of either day, no output is skipped, and they are the uncut run's
 abbrev pub Batches : (page : ℕ) → Type 0
 Batches page =
     (p : List ℕ) → Plan p → (ρ : List ℤ) (owner n t₀ high : ℕ) (before : List Numbered) (s : System) → Batch p ρ page (EitherSets p) owner n t₀ before high s
@@ -81,7 +75,7 @@ pub record Foldable (p chip : List ℕ) : Type 0 where
   pub holds : Holds p chip owner end torn last values
   pub never : (k : ℕ) → (k ≡ 12) ⊎ (15 ≤ k) → (words new : List ℕ) (stored budget : ℕ) (r : Outcome) → Folds (env_of p words) chip new stored budget r → ¬ (r.answer ≡ Refused k)
 
--- every chip that lists have left is one, folded or noted before or not
+-- every chip that lists have left is one, folded before or not
 abbrev pub AlwaysFoldable : Type 0
 AlwaysFoldable =
     (p : List ℕ) → Plan p → (ρ : List ℤ) (owner n t₀ high : ℕ) (before : List Numbered) (s : System) → Batch p ρ 1 (EitherSets p) owner n t₀ before high s
@@ -104,38 +98,3 @@ pub record NotLost (p : List ℕ) (ρ : List ℤ) (s : System) : Type 0 where
 abbrev pub Q8 : Type 0
 Q8 =
     (p : List ℕ) → Plan p → (ρ : List ℤ) (n : ℕ) (s : System) → History p ρ 1 unowned n 0 (Erased n) (EitherSets p) s → NotLost p ρ s
-
--- ---- Q-14
-
--- "the cells, place and counts" as a chip reads, in a run that has not stopped
-abbrev pub frame_read : Commit → (values : List ℕ) → Frame
-frame_read last values = record { cells = values; pc = last.place; readings = last.readings; outputs = last.outputs; stop = 0 }
-
--- a chip with a note, begun with the cells, place and counts that the unchanged one reads as. `Q14Read 1` is the byte chip's, `Q14Read 16` the page chip's
-abbrev pub Q14Read : (page : ℕ) → Type 0
-Q14Read page =
-    (p : List ℕ) → Plan p → (ρ : List ℤ) (owner n t₀ high : ℕ) (before : List Numbered) (s : System)
-    -- "on a chip left by a list as 01 has it under the plan offered, or folded from such a chip under that plan": its marks name the plan or, `A2`, none
-    → Batch p ρ page (EitherSets p) owner n t₀ before high s → (named : ℕ) (chip : List ℕ) → Passed page p owner s.machine.journal named chip
-    -- what it reads as
-    → (end torn : ℕ) (last : Commit) (own : Bool) (values : List ℕ) → Taken (facts_of (format_for page named) p) chip end torn last own values
-    -- "change the four value bytes of any record, in a whole save, whose cell is dead at the CHECKPOINT of the last whole save"; "no other byte differs at the start"
-    → (changed : List ℕ) → Noted page named p chip changed
-    -- "one with `A2` marks once it is folded under that plan", and with more notes
-    → (after : ℕ) (onward : List ℕ) → Passed page p named changed after onward
-    -- "as the list goes on from there, under all later cuts"; "Readings are the same on both sides"
-    → (s' : System) → History p ρ page after (length onward) 0 (λ l. l ≡ onward) (EitherSets p) s'
-    -- "Recovery still accepts the chip" (`taken_up`), "no output is skipped, and the outputs' numbers and values and the kind of stop are those of 01's uncut run" (`outputs`,
-    -- `all`, `stops`), begun there; "the steps between may differ", and `steps` bounds them
-    → Claim p ρ (frame_read last values) (length onward) 0 (EitherSets p) page after s'
-
--- the same, "begun with the cells, place and counts recovered from the unchanged chip". Where `named` is the plan's owner that is today's recovery; where it is `unowned` it is
--- document 01's, which a chip with `A2` marks had until Q-8: the list goes on with the chip once it is folded (`Passed.folded`)
-abbrev pub Q14 : (page : ℕ) → Type 0
-Q14 page =
-    (p : List ℕ) → Plan p → (ρ : List ℤ) (owner n t₀ high : ℕ) (before : List Numbered) (s : System)
-    → Batch p ρ page (EitherSets p) owner n t₀ before high s → (named : ℕ) (chip : List ℕ) → Passed page p owner s.machine.journal named chip
-    → (m : Machine) → m.journal ≡ chip → (words : List ℕ) (a : recovery.Outcome) → Recovers (env_of p words) page named m a → a.answer ≡ Restored
-    → (changed : List ℕ) → Noted page named p chip changed → (after : ℕ) (onward : List ℕ) → Passed page p named changed after onward
-    → (s' : System) → History p ρ page after (length onward) 0 (λ l. l ≡ onward) (EitherSets p) s'
-    → Claim p ρ (frame_of a.machine) (length onward) 0 (EitherSets p) page after s'

@@ -1,2 +1,3 @@
 pub mod Until
 pub mod Batch
+pub mod Noting

@@ -1,17 +1,12 @@
--- Lists of C calls that follow one another on one batch, over the bytes that they are lent: document 02, Q-3, Q-6, Q-8 and Q-14, of the calls of crate `restart_c`.
+-- Lists of C calls that follow one another on one batch, over the bytes that they are lent: document 02, Q-3, Q-6 and Q-8, of the calls of crate `restart_c`.
 -- Assumes nothing.
 use Rattle.std.specs.Prelude.{ℕ, ◌≤◌, max, ◌≡◌, List, [], ◌++◌, ◌⊎◌, ℤ, length}
 use Rattle.journal.specs.Format.{unowned, owner_of_plan}
-use Rattle.step.specs.State.{env_of, Machine}
-use Rattle.recovery.specs.Recover as recovery
-use Rattle.recovery.specs.Recover.{Recovers}
-use Rattle.recovery.specs.declared.Recovered.TheVariants.{Restored}
-use Rattle.notes.specs.Notes.{Noted}
-use Rattle.layout.specs.Layout.{state_size, machine_in}
+use Rattle.layout.specs.Layout.{state_size}
 use Rattle.pitskelo.specs.Calls.{words_of}
 use Rattle.pitskelo.specs.Runs.{sets_in, RecoverCall}
 use Rattle.pitskelo.specs.Folds.{FoldLent, FoldLeft, FoldCall}
-use Rattle.restart.specs.Reference.{Frame, frame_of, Numbered, zeros}
+use Rattle.restart.specs.Reference.{Numbered, zeros}
 use Rattle.restart.specs.History.{System, History}
 use Rattle.restart.specs.Claim.{Plan, Erased, Claim}
 use Rattle.restart_c.specs.Calls.{Board, system_of, Calls, Found, Answers}
@@ -41,53 +36,51 @@ Q3 page =
     → Calls page p ρ (λ ws. ws ≡ old) n 0 (Erased n) b → (b' : Board)
     → Calls page p ρ (λ ws. ws ≡ new) n b.tally.committed (λ l. l ≡ b.chip) b'
     → BatchClaim p ρ page (owner_of_plan p) n b.tally.committed (λ w. w ≡ sets_in new) b.outputs b.tally.highest (system_of page (owner_of_plan p) b')
-    × Answers page p ρ zeros (λ ws. ws ≡ new) n b'
+    × Answers page p ρ (λ ws. ws ≡ new) n b'
 
 -- wider than the request: one list of calls, and the sets of either day lent to any of them
 abbrev pub Q3AnyTime : (page : ℕ) → Type 0
 Q3AnyTime page =
     (p : List ℕ) → Plan p → (ρ : List ℤ) (n : ℕ) (b : Board) → Calls page p ρ (EitherSets p) n 0 (Erased n) b
-    → Claim p ρ zeros n 0 (Used (EitherSets p)) page (owner_of_plan p) (system_of page (owner_of_plan p) b) × Answers page p ρ zeros (EitherSets p) n b
+    → Claim p ρ zeros n 0 (Used (EitherSets p)) page (owner_of_plan p) (system_of page (owner_of_plan p) b) × Answers page p ρ (EitherSets p) n b
 
--- ---- Q-6, Q-8 and Q-14
+-- ---- Q-6 and Q-8
 
--- what is done with a chip, whose marks name `owner`, between two lists, as often as is wanted: nothing, or pitskelo_fold is called until it is finished, or a note is put on it
--- ("change the four value bytes of any record, in a whole save, whose cell is dead at the CHECKPOINT of the last whole save")
-pub data Passed (page : ℕ) (p : List ℕ) (owner : ℕ) (chip : List ℕ) : (named : ℕ) → List ℕ → Type 0 where
-  as_left : Passed page p owner chip owner chip
-  folded : {named : ℕ} {l new : List ℕ} → Passed page p owner chip named l → page ≡ 1 → Finished p l new → Passed page p owner chip (owner_of_plan p) new
-  noted : {named : ℕ} {l new : List ℕ} → Passed page p owner chip named l → Noted page named p l new → Passed page p owner chip named new
+-- what is done with a chip between two lists: nothing, or pitskelo_fold is called, as often as is wanted
+pub data Passed (page : ℕ) (p chip : List ℕ) : List ℕ → Type 0 where
+  as_left : Passed page p chip chip
+  folded : {l new : List ℕ} → Passed page p chip l → page ≡ 1 → Finished p l new → Passed page p chip new
 
 -- lists one after the other, of which the last has come to a board: n and t₀ are its chip's length and its tally at first, `before` the outputs of the lists before it and `high`
 -- their highest tally
 module _ (page : ℕ) (p : List ℕ) (ρ : List ℤ) (Sets : List ℕ → Type 0) where
   pub data Batch : (n t₀ : ℕ) (before : List Numbered) (high : ℕ) → Board → Type 0 where
     begins : {n : ℕ} {b : Board} → Calls page p ρ Sets n 0 (Erased n) b → Batch n 0 [] 0 b
-    -- on a chip that lists until Q-8 have left, whose marks are `A2` and name no plan, and that is passed on in the plan's name: so pitskelo_fold has folded it
-    upgraded : {n t₀ high : ℕ} {before : List Numbered} {s : System} → batch.Batch p ρ page (Used Sets) unowned n t₀ before high s → (chip : List ℕ)
-        → Passed page p unowned s.machine.journal (owner_of_plan p) chip → {b : Board} → Calls page p ρ Sets (length chip) s.tally.committed (λ l. l ≡ chip) b
+    -- on a chip that lists until Q-8 have left, whose marks are `A2` and name no plan, and that pitskelo_fold has folded
+    upgraded : {n t₀ high : ℕ} {before : List Numbered} {s : System} → page ≡ 1 → batch.Batch p ρ page (Used Sets) unowned n t₀ before high s → (chip : List ℕ)
+        → Finished p s.machine.journal chip → {b : Board} → Calls page p ρ Sets (length chip) s.tally.committed (λ l. l ≡ chip) b
         → Batch (length chip) s.tally.committed (before ++ s.outputs) (max high s.tally.highest) b
-    onward : {n t₀ high : ℕ} {before : List Numbered} {b : Board} → Batch n t₀ before high b → (chip : List ℕ) → Passed page p (owner_of_plan p) b.chip (owner_of_plan p) chip
+    onward : {n t₀ high : ℕ} {before : List Numbered} {b : Board} → Batch n t₀ before high b → (chip : List ℕ) → Passed page p b.chip chip
         → {b' : Board} → Calls page p ρ Sets (length chip) b.tally.committed (λ l. l ≡ chip) b'
         → Batch (length chip) b.tally.committed (before ++ b.outputs) (max high b.tally.highest) b'
 
--- whatever is folded and noted between the lists, on chips of whatever lengths, with either kind of mark at first and under the sets of either day, no output is skipped, and they
--- are the uncut run's
+-- whatever is folded between the lists, on chips of whatever lengths, with either kind of mark at first and under the sets of either day, no output is skipped, and they are the
+-- uncut run's
 abbrev pub Batches : (page : ℕ) → Type 0
 Batches page =
     (p : List ℕ) → Plan p → (ρ : List ℤ) (n t₀ high : ℕ) (before : List Numbered) (b : Board) → Batch page p ρ (EitherSets p) n t₀ before high b
-    → BatchClaim p ρ page (owner_of_plan p) n t₀ (Used (EitherSets p)) before high (system_of page (owner_of_plan p) b) × Answers page p ρ zeros (EitherSets p) n b
+    → BatchClaim p ρ page (owner_of_plan p) n t₀ (Used (EitherSets p)) before high (system_of page (owner_of_plan p) b) × Answers page p ρ (EitherSets p) n b
 
 -- a chip that pitskelo_fold never refuses with 12, 15 or 16
 abbrev pub NeverRefused : (p chip : List ℕ) → Type 0
 NeverRefused p chip =
     (k : ℕ) → (k ≡ 12) ⊎ (15 ≤ k) → (l : FoldLent) → l.plan ≡ p → l.old ≡ chip → (o : FoldLeft) → FoldCall l o → ¬ (o.result ≡ k)
 
--- such are those that lists have left, folded or noted before or not
+-- such are those that lists have left, folded before or not
 abbrev pub AlwaysFoldable : Type 0
 AlwaysFoldable =
     (p : List ℕ) → Plan p → (ρ : List ℤ) (n t₀ high : ℕ) (before : List Numbered) (b : Board) → Batch 1 p ρ (EitherSets p) n t₀ before high b
-    → (chip : List ℕ) → Passed 1 p (owner_of_plan p) b.chip (owner_of_plan p) chip → NeverRefused p chip
+    → (chip : List ℕ) → Passed 1 p b.chip chip → NeverRefused p chip
 
 -- of a list as document 01 has it, whose marks are `A2` and name no plan, that has come to s: "so no batch on one is lost"
 pub record NotLost (p : List ℕ) (ρ : List ℤ) (s : System) : Type 0 where
@@ -99,39 +92,9 @@ pub record NotLost (p : List ℕ) (ρ : List ℤ) (s : System) : Type 0 where
   -- and the batch goes on with it: no output is skipped, and they are the uncut run's
   pub goes_on : (chip : List ℕ) → Finished p s.machine.journal chip → (b : Board) → Calls 1 p ρ (EitherSets p) (length chip) s.tally.committed (λ l. l ≡ chip) b
       → BatchClaim p ρ 1 (owner_of_plan p) (length chip) s.tally.committed (Used (EitherSets p)) s.outputs s.tally.highest (system_of 1 (owner_of_plan p) b)
-      × Answers 1 p ρ zeros (EitherSets p) (length chip) b
+      × Answers 1 p ρ (EitherSets p) (length chip) b
 
 -- for every such list, under the sets of either day, and every list of calls of pitskelo_fold and cuts
 abbrev pub Q8 : Type 0
 Q8 =
     (p : List ℕ) → Plan p → (ρ : List ℤ) (n : ℕ) (s : System) → History p ρ 1 unowned n 0 (Erased n) (Used (EitherSets p)) s → NotLost p ρ s
-
--- ---- Q-14
-
--- of a list of calls that has come to b, on a chip of n bytes, where the uncut run begins at f: "no output is skipped, and the outputs' numbers and values and the kind of stop
--- are those of 01's uncut run", and "Recovery still accepts the chip" (`restores`)
-abbrev pub GoesOn : (page : ℕ) (p : List ℕ) (ρ : List ℤ) (f : Frame) (n : ℕ) → Board → Type 0
-GoesOn page p ρ f n b = Claim p ρ f n 0 (Used (EitherSets p)) page (owner_of_plan p) (system_of page (owner_of_plan p) b) × Answers page p ρ f (EitherSets p) n b
-
--- `Q14 1` is that of pitskelo_recover and pitskelo_run, `Q14 16` that of the page chip's entries
-abbrev pub Q14 : (page : ℕ) → Type 0
-Q14 page =
-    (p : List ℕ) → Plan p → (ρ : List ℤ) (n t₀ high : ℕ) (before : List Numbered) (b : Board)
-    -- "on a chip left by a list as 01 has it under the plan offered, or folded from such a chip under that plan"
-    → Batch page p ρ (EitherSets p) n t₀ before high b → (chip : List ℕ) → Passed page p (owner_of_plan p) b.chip (owner_of_plan p) chip
-    -- "recovered from the unchanged chip": the call is accepted, and leaves these bytes
-    → (ws : List ℕ) → EitherSets p ws → (state left : List ℕ) → RecoverCall page p ws chip state left 0
-    -- "change the four value bytes .."; "no other byte differs at the start"
-    → (changed : List ℕ) → Noted page (owner_of_plan p) p chip changed → (onward : List ℕ) → Passed page p (owner_of_plan p) changed (owner_of_plan p) onward
-    -- "as the list goes on from there, under all later cuts", "begun with the cells, place and counts recovered"
-    → (b' : Board) → Calls page p ρ (EitherSets p) (length onward) 0 (λ l. l ≡ onward) b'
-    → GoesOn page p ρ (frame_of (machine_in page (owner_of_plan p) left chip)) (length onward) b'
-
--- "one with `A2` marks once it is folded under that plan": begun with what document 01's recovery, which such a chip had until Q-8, makes of the unchanged chip
-abbrev pub Q14Until : (page : ℕ) → Type 0
-Q14Until page =
-    (p : List ℕ) → Plan p → (ρ : List ℤ) (n t₀ high : ℕ) (before : List Numbered) (s : System)
-    → batch.Batch p ρ page (Used (EitherSets p)) unowned n t₀ before high s → (chip : List ℕ) → Passed page p unowned s.machine.journal unowned chip
-    → (m : Machine) → m.journal ≡ chip → (ws : List ℕ) (a : recovery.Outcome) → Recovers (env_of p (sets_in ws)) page unowned m a → a.answer ≡ Restored
-    → (changed : List ℕ) → Noted page unowned p chip changed → (onward : List ℕ) → Passed page p unowned changed (owner_of_plan p) onward
-    → (b' : Board) → Calls page p ρ (EitherSets p) (length onward) 0 (λ l. l ≡ onward) b' → GoesOn page p ρ (frame_of a.machine) (length onward) b'

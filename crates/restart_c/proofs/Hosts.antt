@@ -56,7 +56,7 @@ module _ (page : ℕ) (p ws : List ℕ) (ρ : List ℤ) (n j : ℕ) where
     pub stops : get_or left.numbers 0 0 ≡ stop
 
   -- each call is equipped for its steps
-  equipped : (k : ℕ) {b : Board} {l : RunLent} → HostCall b l → Suffices page p ρ Own zeros k b l j
+  equipped : (k : ℕ) {b : Board} {l : RunLent} → HostCall b l → Suffices page p ρ Own k b l j
   equipped k {b} {l} h =
       let at = (machine_in page (owner_of_plan p) b.state b.chip).regs.readings in
       let e : take j (drop at ρ) ≡ signed_of l.readings = subst (λ (i : ℕ). take i (drop at ρ) ≡ signed_of l.readings) h.readings (sym h.lends.readings) in (
@@ -69,13 +69,13 @@ module _ (page : ℕ) (p ws : List ℕ) (ρ : List ℤ) (n j : ℕ) where
       )
 
   -- so the loop is a chain
-  pub loop-chain : (k : ℕ) {b : Board} {i : ℕ} {o : RunLeft} {b' : Board} → Loop b i o b' → Chain page p ρ Own zeros k b (i * j) o b'
+  pub loop-chain : (k : ℕ) {b : Board} {i : ℕ} {o : RunLeft} {b' : Board} → Loop b i o b' → Chain page p ρ Own k b (i * j) o b'
   loop-chain k {b} (once l h) =
       let z : j ≡ 1 * j = omega arith in
-      subst (λ (t : ℕ). Chain page p ρ Own zeros k b t (run_call_of l) (ran b l (run_call_of l))) z (one l j (equipped k h))
+      subst (λ (t : ℕ). Chain page p ρ Own k b t (run_call_of l) (ran b l (run_call_of l))) z (one l j (equipped k h))
   loop-chain k {b} (again {i} {b' = b'} c e l h) =
       let z : i * j + j ≡ suc i * j = omega arith in
-      subst (λ (t : ℕ). Chain page p ρ Own zeros k b t (run_call_of l) (ran b' l (run_call_of l))) z (more (loop-chain k c) l j (equipped k h))
+      subst (λ (t : ℕ). Chain page p ρ Own k b t (run_call_of l) (ran b' l (run_call_of l))) z (more (loop-chain k c) l j (equipped k h))
 
   module _ (plan : Plan p) (found : Found p ws) where
     -- a call goes on a list
@@ -88,7 +88,7 @@ module _ (page : ℕ) (p ws : List ℕ) (ρ : List ℤ) (n j : ℕ) where
           → let x = get_or (run_call_of l).numbers 0 0 in ((run_call_of l).result ≡ 0) × ((x ≡ 4) ⊎ (x ≡ (ref_at p ρ zeros k).stop))
       call-answers {b} {l} c g h =
           let a = (demand-3 page p plan ws found ρ n b c).1 in
-          (a.runs g l h.lends, a.spends g k end l (subst (Suffices page p ρ Own zeros k b l) (sym h.budget) (equipped k h)))
+          (a.runs g l h.lends, a.spends g k end l (subst (Suffices page p ρ Own k b l) (sym h.budget) (equipped k h)))
 
       module _ {b : Board} (c : Calls page p ρ Own n 0 (Erased n) b) (g : b.good ≡ true) where
         -- so is the last one of the loop

@@ -1,4 +1,5 @@
--- DEMAND 3 OF THE C CALLS: every list of calls is a history of crate `restart`, so that its claim holds (`demand-3`).
+-- DEMAND 3 OF THE C CALLS: every list of calls is a history of crate `restart`, so that its claim holds (`demand-3`). `history-from`, `claims-from` and `answers-from` have it where the
+-- uncut run begins at any frame; `history`, `claims` and `answers` are these at zeros.
 -- Assumes nothing.
 use Prim.Native.Nat.{ℕ, suc, ◌+◌, ◌*◌, ◌≤◌, ◌<◌}
 use mathlib.Core.Path.{◌≡◌, refl, sym, ◌∙◌, ap, subst}
@@ -38,6 +39,7 @@ use Rattle.restart.proofs.Theorem.{upheld, claim, erased-taken}
 use Rattle.restart_c.specs.Calls as calls
 use Rattle.restart_c.specs.Calls.{Board, system_of, restored, holding, wrote, ran, Lends, Calls, Answers, Demand3}
 use Rattle.restart_c.specs.Calls.{begins, refused_recovery, refused_run_of, recovers, crashes, runs, crashed_run}
+use Rattle.restart_c.specs.From.{ChainFrom, AnswersFrom}
 use Rattle.restart_c.proofs.FoundSets.{sets-safe}
 use Rattle.restart_c.proofs.Outputs.{Writes, call-writes}
 use Rattle.restart_c.proofs.Back.{machine-back}
@@ -215,20 +217,20 @@ module _ (page : ℕ) (p : List ℕ) (plan : Plan p) (ρ : List ℤ) (f₀ : Fra
     suffices e = (lent-words, record { steps = e.steps; reads = rw x.readings at e.reads; gives = e.gives })
 
   -- ---- EVERY LIST IS A HISTORY
-  pub history : {b : Board} → C b → H (system_of page (owner_of_plan p) b)
+  pub history-from : {b : Board} → C b → H (system_of page (owner_of_plan p) b)
   unfolding regs_in
-  history (begins state chip l b) = list.begins (machine_in page (owner_of_plan p) state chip) l b
-  history (refused_recovery {b} c kind q vs chip state left result x z own same) =
-      subst (λ (st : List ℕ). H (system_of page (owner_of_plan p) (holding b st b.chip))) (sym (kept own (recovery-kept x z) same)) (history c)
-  history (refused_run_of {b} c l z own-state own-chip same-state same-chip) =
+  history-from (begins state chip l b) = list.begins (machine_in page (owner_of_plan p) state chip) l b
+  history-from (refused_recovery {b} c kind q vs chip state left result x z own same) =
+      subst (λ (st : List ℕ). H (system_of page (owner_of_plan p) (holding b st b.chip))) (sym (kept own (recovery-kept x z) same)) (history-from c)
+  history-from (refused_run_of {b} c l z own-state own-chip same-state same-chip) =
       let k = run-kept l z in
       let st = kept own-state (ap (λ (o : RunLeft). o.state) k) same-state in
       let ch = kept own-chip (ap (λ (o : RunLeft). o.chip) k) same-chip in
-      subst H (λ i. system_of page (owner_of_plan p) (holding b (sym st i) (sym ch i))) (history c)
-  history (recovers c ws w left x) = recovered (history c) ws w left x
-  history (crashes c state) = list.crashes (history c) (machine_in page (owner_of_plan p) state [])
-  history (runs c g l x z) = went l x (history c) g z
-  history (crashed_run c g l x z state) = list.crashes (went l x (history c) g z) (machine_in page (owner_of_plan p) state [])
+      subst H (λ i. system_of page (owner_of_plan p) (holding b (sym st i) (sym ch i))) (history-from c)
+  history-from (recovers c ws w left x) = recovered (history-from c) ws w left x
+  history-from (crashes c state) = list.crashes (history-from c) (machine_in page (owner_of_plan p) state [])
+  history-from (runs c g l x z) = went l x (history-from c) g z
+  history-from (crashed_run c g l x z state) = list.crashes (went l x (history-from c) g z) (machine_in page (owner_of_plan p) state [])
 
   -- ---- and a good state has its length
 
@@ -243,16 +245,16 @@ module _ (page : ℕ) (p : List ℕ) (plan : Plan p) (ρ : List ℤ) (f₀ : Fra
   sized (refused_recovery {b} c kind q vs chip state left result x z own same) g = ap length (kept own (recovery-kept x z) same) ∙ sized c g
   sized (refused_run_of {b} c l z own-state own-chip same-state same-chip) g =
       ap length (kept own-state (ap (λ (o : RunLeft). o.state) (run-kept l z)) same-state) ∙ sized c g
-  sized (recovers c ws w left x) g = restored-size (history c) ws w left x
+  sized (recovers c ws w left x) g = restored-size (history-from c) ws w left x
   sized (crashes c state) g = clash false g refl
-  sized (runs c g l x z) _ = ran-size l x (history c) g z
+  sized (runs c g l x z) _ = ran-size l x (history-from c) g z
   sized (crashed_run c g l x z state) e = clash false e refl
 
   -- ---- what the entries answer
 
   -- the claim of the system that the bytes hold
-  pub claims : {b : Board} → C b → Claim p ρ f₀ n t₀ Words page (owner_of_plan p) (system_of page (owner_of_plan p) b)
-  claims c = claim p ρ f₀ plan page (owner_of_plan p) n t₀ Begins Words takes-up safe (history c)
+  pub claims-from : {b : Board} → C b → Claim p ρ f₀ n t₀ Words page (owner_of_plan p) (system_of page (owner_of_plan p) b)
+  claims-from c = claim p ρ f₀ plan page (owner_of_plan p) n t₀ Begins Words takes-up safe (history-from c)
 
   -- ---- a chain of calls
 
@@ -269,26 +271,26 @@ module _ (page : ℕ) (p : List ℕ) (plan : Plan p) (ρ : List ℤ) (f₀ : Fra
       → Chain p ρ f₀ n t₀ Words k (system_of page (owner_of_plan p) b) j (made l x).ended (list.ran p ρ (system_of page (owner_of_plan p) b') (request l x))
       → Led k b j (run_call_of l) (ran b' l (run_call_of l))
   led-run k b b' j c g l x h =
-      let z = result l x (history c) g (sized c g) in
+      let z = result l x (history-from c) g (sized c g) in
       record {
         calls = runs c g l x z;
         good = g;
         answer = (made l x).ended;
-        chain = subst (Chain p ρ f₀ n t₀ Words k (system_of page (owner_of_plan p) b) j (made l x).ended) (sym (went-same l x (history c) g z)) h;
+        chain = subst (Chain p ρ f₀ n t₀ Words k (system_of page (owner_of_plan p) b) j (made l x).ended) (sym (went-same l x (history-from c) g z)) h;
         result = z;
-        kind = kind-is l x (history c) g z;
+        kind = kind-is l x (history-from c) g z;
       }
 
-  led : {k : ℕ} {b : Board} {j : ℕ} {o : RunLeft} {b' : Board} → C b → b.good ≡ true → calls.Chain page p ρ Sets f₀ k b j o b' → Led k b j o b'
-  led {k} {b} c g (calls.one l j e) =
+  led : {k : ℕ} {b : Board} {j : ℕ} {o : RunLeft} {b' : Board} → C b → b.good ≡ true → ChainFrom page p ρ Sets f₀ k b j o b' → Led k b j o b'
+  led {k} {b} c g (ChainFrom.one l j e) =
       led-run k b b j c g l e.0 (one (request l e.0) j (suffices l e.0 e.1))
-  led {k} {b} c g (calls.more {i} {o} {b'} h l j e) =
+  led {k} {b} c g (ChainFrom.more {i} {o} {b'} h l j e) =
       let d = led c g h in
       led-run k b b' (i + j) d.calls d.good l e.0 (more d.chain (request l e.0) j (suffices l e.0 e.1))
-  led {k} {b} {j} {o} c g (calls.beside_recovery {b' = b'} h kind q vs chip state left result x z own same) =
+  led {k} {b} {j} {o} c g (ChainFrom.beside_recovery {b' = b'} h kind q vs chip state left result x z own same) =
       let st = kept own (recovery-kept x z) same in
       subst (Led k b j o) (λ i. holding b' (sym st i) b'.chip) (led c g h)
-  led {k} {b} {j} {o} c g (calls.beside_run {b' = b'} h l z own-state own-chip same-state same-chip) =
+  led {k} {b} {j} {o} c g (ChainFrom.beside_run {b' = b'} h l z own-state own-chip same-state same-chip) =
       let w = run-kept l z in
       let st = kept own-state (ap (λ (o : RunLeft). o.state) w) same-state in
       let ch = kept own-chip (ap (λ (o : RunLeft). o.chip) w) same-chip in
@@ -296,35 +298,35 @@ module _ (page : ℕ) (p : List ℕ) (plan : Plan p) (ρ : List ℤ) (f₀ : Fra
 
   -- its last run answers the stop
   reaches : {b : Board} → C b → b.good ≡ true → (k : ℕ) → ¬ ((ref_at p ρ f₀ k).stop ≡ 0) → (j : ℕ) (o : RunLeft) (b' : Board)
-      → calls.Chain page p ρ Sets f₀ k b j o b' → k + 2 * n ≤ j → (o.result ≡ 0) × (get_or o.numbers 0 0 ≡ (ref_at p ρ f₀ k).stop)
+      → ChainFrom page p ρ Sets f₀ k b j o b' → k + 2 * n ≤ j → (o.result ≡ 0) × (get_or o.numbers 0 0 ≡ (ref_at p ρ f₀ k).stop)
   reaches c g k z j o b' h m =
       let d = led c g h in
-      (d.result, d.kind ∙ ap (λ (x : Ended). get_or (answer_of x).values 0 0) ((claims c).stops g k z j d.answer (system_of page (owner_of_plan p) b') d.chain m))
+      (d.result, d.kind ∙ ap (λ (x : Ended). get_or (answer_of x).values 0 0) ((claims-from c).stops g k z j d.answer (system_of page (owner_of_plan p) b') d.chain m))
 
-  pub answers : {b : Board} → C b → Answers page p ρ f₀ Sets n b
-  answers {b} c =
+  pub answers-from : {b : Board} → C b → AnswersFrom page p ρ f₀ Sets n b
+  answers-from {b} c =
       record {
         size = sized c;
-        runs = λ g l x. result l x (history c) g (sized c g);
-        takes = λ g l x. takes-is l x (claims c) (history c) g (result l x (history c) g (sized c g));
-        writes = λ g l x. writes-is l x (claims c) (history c) g (result l x (history c) g (sized c g));
+        runs = λ g l x. result l x (history-from c) g (sized c g);
+        takes = λ g l x. takes-is l x (claims-from c) (history-from c) g (result l x (history-from c) g (sized c g));
+        writes = λ g l x. writes-is l x (claims-from c) (history-from c) g (result l x (history-from c) g (sized c g));
         steps =
             λ g l x.
-            let z = result l x (history c) g (sized c g) in
-            (steps-most l x (history c) g z, (claims (runs c g l x z)).steps);
+            let z = result l x (history-from c) g (sized c g) in
+            (steps-most l x (history-from c) g z, (claims-from (runs c g l x z)).steps);
         stops = reaches c;
         spends =
             λ g k z l e.
-            let kind = kind-is l e.0 (history c) g (result l e.0 (history c) g (sized c g)) in
+            let kind = kind-is l e.0 (history-from c) g (result l e.0 (history-from c) g (sized c g)) in
             let by : (x : Ended) → (made l e.0).ended ≡ x → get_or (run_call_of l).numbers 0 0 ≡ get_or (answer_of x).values 0 0 =
             λ x h. kind ∙ ap (λ (x : Ended). get_or (answer_of x).values 0 0) h in
-            ⊎_elim (λ h. inl (by Spent h)) (λ h. inr (by (Stopped _) h)) ((claims c).spends g k z (request l e.0) (suffices l e.0 e.1));
+            ⊎_elim (λ h. inl (by Spent h)) (λ h. inr (by (Stopped _) h)) ((claims-from c).spends g k z (request l e.0) (suffices l e.0 e.1));
         not_damaged =
             λ ws w state left result x.
             bool_cases (eqb (length state) state_size)
             (λ s. ⊎_elim
             (λ (h : 12 ≤ result).
-            absurd ((claims c).not_damaged (sets_in ws) (words ws w) (machine_in page (owner_of_plan p) state b.chip) refl x.outcome (x.recovers (eqb-true _ _ s)) result h
+            absurd ((claims-from c).not_damaged (sets_in ws) (words ws w) (machine_in page (owner_of_plan p) state b.chip) refl x.outcome (x.recovers (eqb-true _ _ s)) result h
             (refused-number x.outcome.answer result (λ z. omega arith) (sym (rw s at x.number)))))
             (λ (h : result < 12). h)
             (le-or-lt 12 result))
@@ -333,14 +335,51 @@ module _ (page : ℕ) (p : List ℕ) (plan : Plan p) (ρ : List ℤ) (f₀ : Fra
             λ most ws w state left result size x.
             rw (eq-eqb (length state) state_size size) at x.number
             ∙ ap (λ (a : Recovered). (recovery.answer_of a).number)
-            ((claims c).taken_up most (sets_in ws) (words ws w) (machine_in page (owner_of_plan p) state b.chip) refl x.outcome (x.recovers size));
+            ((claims-from c).taken_up most (sets_in ws) (words ws w) (machine_in page (owner_of_plan p) state b.chip) refl x.outcome (x.recovers size));
       }
+
+-- ---- where the uncut run begins at zeros
+
+module _ {page : ℕ} {p : List ℕ} {ρ : List ℤ} {Sets : List ℕ → Type 0} where
+  -- a chain is one from zeros
+  chain-from : {k : ℕ} {b : Board} {j : ℕ} {o : RunLeft} {b' : Board} → calls.Chain page p ρ Sets k b j o b' → ChainFrom page p ρ Sets zeros k b j o b'
+  chain-from (calls.one l j e) = ChainFrom.one l j e
+  chain-from (calls.more h l j e) = ChainFrom.more (chain-from h) l j e
+  chain-from (calls.beside_recovery h kind q vs chip state left result x z own same) = ChainFrom.beside_recovery (chain-from h) kind q vs chip state left result x z own same
+  chain-from (calls.beside_run h l z own-state own-chip same-state same-chip) = ChainFrom.beside_run (chain-from h) l z own-state own-chip same-state same-chip
+
+  -- what is answered from zeros is
+  answers-zeros : {n : ℕ} {b : Board} → AnswersFrom page p ρ zeros Sets n b → Answers page p ρ Sets n b
+  answers-zeros a =
+      record {
+        size = a.size;
+        runs = a.runs;
+        takes = a.takes;
+        writes = a.writes;
+        steps = a.steps;
+        stops = λ g k z j o b' h m. a.stops g k z j o b' (chain-from h) m;
+        spends = a.spends;
+        not_damaged = a.not_damaged;
+        restores = a.restores;
+      }
+
+-- a plan, the sets' bytes that accepted calls are lent, with the words that stand in them, and what a list begins with, as crate `restart` wants them
+module _ (page : ℕ) (p : List ℕ) (plan : Plan p) (ρ : List ℤ) (Sets Words : List ℕ → Type 0) (words : (ws : List ℕ) → Sets ws → Words (sets_in ws))
+    (safe : (w : List ℕ) → Words w → Safe p w) (n t₀ : ℕ) (Begins : List ℕ → Type 0) (takes-up : (l : List ℕ) → Begins l → TakenUp page (owner_of_plan p) p (ref_at p ρ zeros t₀) l) where
+  pub history : {b : Board} → Calls page p ρ Sets n t₀ Begins b → History p ρ page (owner_of_plan p) n t₀ Begins Words (system_of page (owner_of_plan p) b)
+  history c = history-from page p plan ρ zeros Sets Words words safe n t₀ Begins takes-up c
+
+  pub claims : {b : Board} → Calls page p ρ Sets n t₀ Begins b → Claim p ρ zeros n t₀ Words page (owner_of_plan p) (system_of page (owner_of_plan p) b)
+  claims c = claims-from page p plan ρ zeros Sets Words words safe n t₀ Begins takes-up c
+
+  pub answers : {b : Board} → Calls page p ρ Sets n t₀ Begins b → Answers page p ρ Sets n b
+  answers c = answers-zeros (answers-from page p plan ρ zeros Sets Words words safe n t₀ Begins takes-up c)
 
 -- DEMAND 3, for every page length
 pub demand-3 : (page : ℕ) → Demand3 page
 demand-3 page p plan ws found ρ n b c =
     let words : (v : List ℕ) → v ≡ ws → sets_in v ≡ sets_in ws = λ v e. ap sets_in e in
     let safe : (w : List ℕ) → w ≡ sets_in ws → Safe p w = λ w e. subst (Safe p) (sym e) (sets-safe plan found) in (
-      claims page p plan ρ zeros (λ v. v ≡ ws) (λ w. w ≡ sets_in ws) words safe n 0 (Erased n) (erased-taken p ρ page (owner_of_plan p) n (owner-small p)) c,
-      answers page p plan ρ zeros (λ v. v ≡ ws) (λ w. w ≡ sets_in ws) words safe n 0 (Erased n) (erased-taken p ρ page (owner_of_plan p) n (owner-small p)) c,
+      claims page p plan ρ (λ v. v ≡ ws) (λ w. w ≡ sets_in ws) words safe n 0 (Erased n) (erased-taken p ρ page (owner_of_plan p) n (owner-small p)) c,
+      answers page p plan ρ (λ v. v ≡ ws) (λ w. w ≡ sets_in ws) words safe n 0 (Erased n) (erased-taken p ρ page (owner_of_plan p) n (owner-small p)) c,
     )

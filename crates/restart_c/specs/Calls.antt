@@ -9,7 +9,7 @@ use Rattle.layout.specs.Numbers.{signed_of}
 use Rattle.layout.specs.Layout.{state_size, machine_in}
 use Rattle.pitskelo.specs.Calls.{AnalyseCall}
 use Rattle.pitskelo.specs.Runs.{sets_in, RunLent, RunLeft, run_call_of, RecoverCall}
-use Rattle.restart.specs.Reference.{Frame, Numbered, numbered_from, zeros, ref_at, emitted, taken}
+use Rattle.restart.specs.Reference.{Numbered, numbered_from, zeros, ref_at, emitted, taken}
 use Rattle.restart.specs.History.{Tally, set_back, tallied_over, System}
 use Rattle.restart.specs.Claim.{Plan, Claim, Erased, Equipped}
 
@@ -82,21 +82,21 @@ module _ (page : ℕ) (p : List ℕ) (ρ : List ℤ) (Sets : List ℕ → Type 0
     pub readings : signed_of l.readings ≡ take count (drop (machine_in page (owner_of_plan p) b.state b.chip).regs.readings ρ)
 
   -- a run of the list that is equipped for j of its steps (crate `restart`): of readings and places it is lent as many as their bytes hold
-  abbrev pub Suffices : (f₀ : Frame) (k : ℕ) → Board → RunLent → (j : ℕ) → Type 0
-  Suffices f₀ k b l j =
-      Lends b l × Equipped p ρ f₀ k (machine_in page (owner_of_plan p) b.state b.chip).regs l.budget (length (signed_of l.readings)) (length (signed_of l.outputs)) j
+  abbrev pub Suffices : (k : ℕ) → Board → RunLent → (j : ℕ) → Type 0
+  Suffices k b l j =
+      Lends b l × Equipped p ρ zeros k (machine_in page (owner_of_plan p) b.state b.chip).regs l.budget (length (signed_of l.readings)) (length (signed_of l.outputs)) j
 
   -- such runs one after the other, with no recovery between, refused calls of any content among them; the steps that they are equipped for in all, and what the last run left
-  pub data Chain (f₀ : Frame) (k : ℕ) (b : Board) : (steps : ℕ) → RunLeft → Board → Type 0 where
-    one : (l : RunLent) (j : ℕ) → Suffices f₀ k b l j → Chain f₀ k b j (run_call_of l) (ran b l (run_call_of l))
-    more : {i : ℕ} {o : RunLeft} {b' : Board} → Chain f₀ k b i o b' → (l : RunLent) (j : ℕ) → Suffices f₀ k b' l j
-        → Chain f₀ k b (i + j) (run_call_of l) (ran b' l (run_call_of l))
-    beside_recovery : {i : ℕ} {o : RunLeft} {b' : Board} → Chain f₀ k b i o b' → (kind : ℕ) (q vs chip state left : List ℕ) (result : ℕ)
+  pub data Chain (k : ℕ) (b : Board) : (steps : ℕ) → RunLeft → Board → Type 0 where
+    one : (l : RunLent) (j : ℕ) → Suffices k b l j → Chain k b j (run_call_of l) (ran b l (run_call_of l))
+    more : {i : ℕ} {o : RunLeft} {b' : Board} → Chain k b i o b' → (l : RunLent) (j : ℕ) → Suffices k b' l j
+        → Chain k b (i + j) (run_call_of l) (ran b' l (run_call_of l))
+    beside_recovery : {i : ℕ} {o : RunLeft} {b' : Board} → Chain k b i o b' → (kind : ℕ) (q vs chip state left : List ℕ) (result : ℕ)
         → RecoverCall kind q vs chip state left result → ¬ (result ≡ 0) → (own : Bool) → (own ≡ true → state ≡ b'.state)
-        → Chain f₀ k b i o (holding b' (cond own left b'.state) b'.chip)
-    beside_run : {i : ℕ} {o : RunLeft} {b' : Board} → Chain f₀ k b i o b' → (l : RunLent) → ¬ ((run_call_of l).result ≡ 0) → (own-state own-chip : Bool)
+        → Chain k b i o (holding b' (cond own left b'.state) b'.chip)
+    beside_run : {i : ℕ} {o : RunLeft} {b' : Board} → Chain k b i o b' → (l : RunLent) → ¬ ((run_call_of l).result ≡ 0) → (own-state own-chip : Bool)
         → (own-state ≡ true → l.state ≡ b'.state) → (own-chip ≡ true → l.chip ≡ b'.chip)
-        → Chain f₀ k b i o (holding b' (cond own-state (run_call_of l).state b'.state) (cond own-chip (run_call_of l).chip b'.chip))
+        → Chain k b i o (holding b' (cond own-state (run_call_of l).state b'.state) (cond own-chip (run_call_of l).chip b'.chip))
 
   -- n is the chip's length, t₀ the tally at first, and `Begins` what the chip holds then
   module _ (n t₀ : ℕ) (Begins : List ℕ → Type 0) where
@@ -126,28 +126,28 @@ pub record Found (p ws : List ℕ) : Type 0 where
   pub dead : List ℕ
   pub call : AnalyseCall p dead_lent lent dead ws 0
 
--- what the entries answer, in their own numbers, where the uncut run begins at f₀
-pub record Answers (page : ℕ) (p : List ℕ) (ρ : List ℤ) (f₀ : Frame) (Sets : List ℕ → Type 0) (n : ℕ) (b : Board) : Type 0 where
+-- what the entries answer, in their own numbers
+pub record Answers (page : ℕ) (p : List ℕ) (ρ : List ℤ) (Sets : List ℕ → Type 0) (n : ℕ) (b : Board) : Type 0 where
   -- a good state has its length
   pub size : b.good ≡ true → length b.state ≡ state_size
   -- "a run never gives 10 on a state that an accepted call left and no cut has since spoiled": it is never refused
   pub runs : b.good ≡ true → (l : RunLent) → Lends page p ρ Sets b l → (run_call_of l).result ≡ 0
   -- "Each accepted run, cut or not, takes the readings and writes the outputs, numbers and order included, that the uncut run has between the tallies before and after
   -- it": taken and given are the third and the fourth of its numbers
-  pub takes : b.good ≡ true → (l : RunLent) → Lends page p ρ Sets b l → let o = run_call_of l in let t = taken p ρ f₀ b.tally.retired (ran b l o).tally.retired in
+  pub takes : b.good ≡ true → (l : RunLent) → Lends page p ρ Sets b l → let o = run_call_of l in let t = taken p ρ zeros b.tally.retired (ran b l o).tally.retired in
       (get_or o.numbers 2 0 ≡ length t)
       × (numbered_from (machine_in page (owner_of_plan p) b.state b.chip).regs.readings (take (get_or o.numbers 2 0) (signed_of l.readings)) ≡ t)
-  pub writes : b.good ≡ true → (l : RunLent) → Lends page p ρ Sets b l → let o = run_call_of l in let t = emitted p ρ f₀ b.tally.retired (ran b l o).tally.retired in
+  pub writes : b.good ≡ true → (l : RunLent) → Lends page p ρ Sets b l → let o = run_call_of l in let t = emitted p ρ zeros b.tally.retired (ran b l o).tally.retired in
       (get_or o.numbers 3 0 ≡ length t) × (wrote l o ≡ t)
   -- steps, the second of its numbers, is at most the budget; "at most n plus twice the chip's length steps follow an accepted recovery before the next"
   pub steps : b.good ≡ true → (l : RunLent) → Lends page p ρ Sets b l → let o = run_call_of l in
-      (get_or o.numbers 1 0 ≤ l.budget) × ((k : ℕ) → ¬ ((ref_at p ρ f₀ k).stop ≡ 0) → b.steps + get_or o.numbers 1 0 ≤ k + 2 * n)
+      (get_or o.numbers 1 0 ≤ l.budget) × ((k : ℕ) → ¬ ((ref_at p ρ zeros k).stop ≡ 0) → b.steps + get_or o.numbers 1 0 ≤ k + 2 * n)
   -- "so accepted runs given budget, readings and room, with no recovery between, reach that stop": the first of the last run's numbers, ended, is its kind
-  pub stops : b.good ≡ true → (k : ℕ) → ¬ ((ref_at p ρ f₀ k).stop ≡ 0) → (j : ℕ) (o : RunLeft) (b' : Board) → Chain page p ρ Sets f₀ k b j o b' → k + 2 * n ≤ j
-      → (o.result ≡ 0) × (get_or o.numbers 0 0 ≡ (ref_at p ρ f₀ k).stop)
+  pub stops : b.good ≡ true → (k : ℕ) → ¬ ((ref_at p ρ zeros k).stop ≡ 0) → (j : ℕ) (o : RunLeft) (b' : Board) → Chain page p ρ Sets k b j o b' → k + 2 * n ≤ j
+      → (o.result ≡ 0) × (get_or o.numbers 0 0 ≡ (ref_at p ρ zeros k).stop)
   -- on the way there a run that is equipped for its whole budget spends it: ended is 4, or that kind
-  pub spends : b.good ≡ true → (k : ℕ) → ¬ ((ref_at p ρ f₀ k).stop ≡ 0) → (l : RunLent) → Suffices page p ρ Sets f₀ k b l l.budget
-      → let x = get_or (run_call_of l).numbers 0 0 in (x ≡ 4) ⊎ (x ≡ (ref_at p ρ f₀ k).stop)
+  pub spends : b.good ≡ true → (k : ℕ) → ¬ ((ref_at p ρ zeros k).stop ≡ 0) → (l : RunLent) → Suffices page p ρ Sets k b l l.budget
+      → let x = get_or (run_call_of l).numbers 0 0 in (x ≡ 4) ⊎ (x ≡ (ref_at p ρ zeros k).stop)
   -- "recovery never gives 12", and since Q-8 "never 15 or 16", whatever state it is lent; one of the right length is restored, unless no chip of the kind has that length
   pub not_damaged : (ws : List ℕ) → Sets ws → (state left : List ℕ) (result : ℕ) → RecoverCall page p ws b.chip state left result → result < 12
   pub restores : chip_length page n ≡ true → (ws : List ℕ) → Sets ws → (state left : List ℕ) (result : ℕ) → length state ≡ state_size → RecoverCall page p ws b.chip state left result → result ≡ 0
@@ -157,4 +157,4 @@ pub record Answers (page : ℕ) (p : List ℕ) (ρ : List ℤ) (f₀ : Frame) (S
 abbrev pub Demand3 : (page : ℕ) → Type 0
 Demand3 page =
     (p : List ℕ) → Plan p → (ws : List ℕ) → Found p ws → (ρ : List ℤ) (n : ℕ) (b : Board) → Calls page p ρ (λ v. v ≡ ws) n 0 (Erased n) b
-    → Claim p ρ zeros n 0 (λ w. w ≡ sets_in ws) page (owner_of_plan p) (system_of page (owner_of_plan p) b) × Answers page p ρ zeros (λ v. v ≡ ws) n b
+    → Claim p ρ zeros n 0 (λ w. w ≡ sets_in ws) page (owner_of_plan p) (system_of page (owner_of_plan p) b) × Answers page p ρ (λ v. v ≡ ws) n b
