@@ -37,8 +37,8 @@ fn row(rt: &impl Print, name: &[u8], plan: &[u8]) -> io::Result<()> {
     rt.write_all(b"\n")
 }
 
-fn sets(rt: &(impl Print + AllocGlobal), name: &[u8], plan: &[u8]) -> io::Result<()> {
-    let mut text = vec![in rt.alloc(); 0u8; 140000]?;
+fn sets(rt: &impl Print, name: &[u8], plan: &[u8]) -> io::Result<()> {
+    let mut text = [0u8; 140000];
     let end = listing::list(plan, &mut text);
     rt.write_all(name)?;
     rt.write_all(b":\n")?;
@@ -46,17 +46,12 @@ fn sets(rt: &(impl Print + AllocGlobal), name: &[u8], plan: &[u8]) -> io::Result
 }
 
 // The sets of one of document 001's programs, and a run of it.
-fn program(
-    rt: &(impl Print + AllocGlobal),
-    name: &[u8],
-    plan: &[u8],
-    readings: &[i32],
-) -> io::Result<()> {
+fn program(rt: &impl Print, name: &[u8], plan: &[u8], readings: &[i32]) -> io::Result<()> {
     sets(rt, name, plan)?;
     runs::program(rt, name, plan, readings)
 }
 
-fn cell(rt: &(impl Print + AllocGlobal)) -> io::Result<()> {
+fn cell(rt: &impl Print) -> io::Result<()> {
     program(
         rt,
         b"CELL",
@@ -83,7 +78,7 @@ fn cell(rt: &(impl Print + AllocGlobal)) -> io::Result<()> {
     )
 }
 
-fn sieve(rt: &(impl Print + AllocGlobal)) -> io::Result<()> {
+fn sieve(rt: &impl Print) -> io::Result<()> {
     program(
         rt,
         b"SIEVE",
@@ -101,7 +96,7 @@ const HEIGHTS: [i32; 25] = [
     0, 3, 7, 4, 1, 2, 8, 12, 9, 3, 5, 11, 18, 13, 6, 3, 9, 14, 10, 2, 1, 4, 6, 3, 0,
 ];
 
-fn contour(rt: &(impl Print + AllocGlobal)) -> io::Result<()> {
+fn contour(rt: &impl Print) -> io::Result<()> {
     program(
         rt,
         b"CONTOUR",
