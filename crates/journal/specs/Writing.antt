@@ -1,5 +1,5 @@
 -- The checkpoint that is stored for a set of cells. Document 01 leaves the order of the records free ("in any order"); here they stand by rising cell
--- number. `written_once`, `written_All` and `written-only` of proofs/Written.antt have what every order has in common: each cell of the set once, with its
+-- number. `written_once`, `written_all` and `written-only` of proofs/Written.antt have what every order has in common: each cell of the set once, with its
 -- value, and no other.
 -- Assumes nothing.
 use Rattle.std.specs.Prelude.{ℕ, List, [], ◌∷◌, slice_index}
