@@ -1,7 +1,7 @@
 #!/usr/bin/env python3
 """Brings this repository's own definitions, fields and constructors to snake case, as port.py leaves them to do.
 
-usage: respell.py [FOLDER]      at the top of the repository, once, after /opt/rattle/port/port.py
+usage: respell.py [FOLDER]      at the top of the repository, once, after the kit's port.py
 
 A definition in mixed case, as `addOf`, and a field or a constructor with dashes, as `as-left`, become `add_of` and `as_left`
 wherever they stand: in crates/ (sources, specs, proofs, edits), README.md and docs/. Where a function or another
