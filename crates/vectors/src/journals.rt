@@ -119,6 +119,11 @@ fn edges(rt: &impl Print) -> io::Result<()> {
         b"\x00\x0E\x01",
         b"\xA3\x02\x00\x01",
     )?;
+    counts(rt)
+}
+
+// A count that FF lifts, and one that it cannot.
+fn counts(rt: &impl Print) -> io::Result<()> {
     row(
         rt,
         b"a count that FF lifts",
