@@ -8,10 +8,10 @@ use native.Mathlib.Omega.{arith}
 use lib.ListN.{length}
 use borrow.Author.Tests.{lt-ltb, le-ltb}
 use Rattle.program.specs.Check.{check_of}
-use Rattle.program.specs.declared.Checked.TheVariants as checked
+use Rattle.program.specs.Check as checked
 use Rattle.graph.specs.Tables.{Passed}
 use Rattle.analysis.specs.Analyse.{too_short, analyse_of, DeadSets, ExcludeSets, Analyses}
-use Rattle.analysis.specs.declared.Analysed.TheVariants.{Sets, Refused}
+use Rattle.analysis.specs.Analyse.{Sets, Refused}
 use Rattle.analysis.proofs.Ruling.{answer-ruled}
 
 -- a refusal is no answer with sets

@@ -16,7 +16,7 @@ use Rattle.program.proofs.Tests.{and_both}
 use Rattle.program.proofs.Accepted.{Accepted}
 use Rattle.graph.specs.Tables.{count_of, start_of}
 use Rattle.analysis.specs.Analyse.{analyse_of, Analyses}
-use Rattle.analysis.specs.declared.Analysed.TheVariants.{Sets}
+use Rattle.analysis.specs.Analyse.{Sets}
 use Rattle.analysis.specs.Rows.{Question, dead_before, de_of_set, ro_of_set, In}
 use Rattle.analysis.proofs.Certificates.{all_of, all-at}
 use Rattle.analysis.proofs.Fixed.{sets-accepted}

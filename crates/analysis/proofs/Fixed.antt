@@ -16,16 +16,16 @@ use Rattle.instruction.specs.Bytes.{cells_of}
 use Rattle.program.specs.Starts.{starts, excludes}
 use Rattle.program.specs.Places.{is_exclude, exclude_number}
 use Rattle.program.specs.Check.{check_of}
-use Rattle.program.specs.declared.Checked.{Checked}
-use Rattle.program.specs.declared.Checked.TheVariants as checked
+use Rattle.program.specs.Check.{Checked}
+use Rattle.program.specs.Check as checked
 use Rattle.program.proofs.Tests.{bool_cases}
 use Rattle.program.proofs.Accepted.{Accepted, accepted}
 use Rattle.graph.specs.Tables.{count_of}
 use Rattle.graph.proofs.Numbers.{exclude-at}
 use Rattle.analysis.specs.Paths.{DE, RO, LiveSave, unsaved, live_at, Written}
 use Rattle.analysis.specs.Analyse.{analysed_from, analyse_of, DeadSets, ExcludeSets, Analyses}
-use Rattle.analysis.specs.declared.Analysed.{Analysed}
-use Rattle.analysis.specs.declared.Analysed.TheVariants.{Sets, Refused}
+use Rattle.analysis.specs.Analyse.{Analysed}
+use Rattle.analysis.specs.Analyse.{Sets, Refused}
 use Rattle.analysis.proofs.Certificates.{not-ro}
 
 -- ---- lists of sets

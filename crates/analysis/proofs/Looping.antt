@@ -6,6 +6,7 @@ use mathlib.Core.Bool.{Bool, true, false, cond}
 use Prim.Native.Nat.{ℕ, suc, ◌+◌, ◌-◌, ◌*◌, ◌^◌, ◌≤◌, ◌<◌, min}
 use native.Mathlib.Omega.{arith}
 use lib.ListN.{length, get_or, take, drop}
+use lib.Seq.{length-take-le, get_or-take}
 use borrow.Author.Tests.{eq-eqb, ne_eqb}
 use Rattle.cellset.specs.Bits.{has, member, within}
 use Rattle.cellset.specs.Sets.{SetIs}
@@ -14,8 +15,10 @@ use Rattle.instruction.specs.Bytes.{byte, cells_of, instruction_at_of}
 use Rattle.instruction.specs.Table.{no_table_of, row_of, may_def_of, must_def_of}
 use Rattle.instruction.specs.declared.Instruction.{Instruction}
 use Rattle.graph.specs.Tables.{count_of, start_of}
-use Rattle.analysis.specs.Search.{Listed, offset_at, saves, dead_all, kept_all}
+use Rattle.analysis.specs.Search.{Mapped, Listed, Found, offset_at, saves, dead_all, kept_all}
 use Rattle.analysis.proofs.Searching.{few-of, start-inside}
+use Rattle.cellset.specs.declared.CellSet.{CellSet}
+use Rattle.std.proofs.Common.{Option, Some, None, nat_eq, unwrap_or}
 
 -- ---- the instruction at place j of the list: its number, its offset and the cells that it must write
 module _ {p at list : List ℕ} {count j : ℕ} (h : Listed p at list count) (l : j < count) where
@@ -32,77 +35,75 @@ module _ {p at list : List ℕ} {count j : ℕ} (h : Listed p at list count) (l 
       → (c : ℕ) → c < 256 → member writes (4 * get_or list j 0) c ≡ must_def_of (instruction_at_of p (offset_at p at list j)) c
   listed-writes writes known c m = rw listed_start (known (get_or list j 0) c (h.below j l) m)
 
+-- the numbers of a region are such a list
+pub found-listed : {p at left right list : List ℕ} {e count : ℕ} → Mapped p at left right → Found p e list count → Listed p at list count
+found-listed m f = record { passed = m.passed; at_is = m.ways.at_is; long_at = m.long_at; most = f.most; below = f.below }
+
+-- also by themselves, without what stands behind them
+pub found-front : {p list : List ℕ} {e count : ℕ} → Found p e list count → Found p e (take count list) (length (take count list))
+found-front {list = list} {count = count} f =
+    let long : length (take count list) ≡ count = length-take-le count list f.most in
+    record {
+      most = omega arith;
+      below = λ j l. rw (get_or-take count list j 0 (omega arith)) (f.below j (omega arith));
+      inside = λ j l. rw (get_or-take count list j 0 (omega arith)) (f.inside j (omega arith));
+      all = λ o r.
+          let (j, l, is) = f.all o r in
+          (j, omega arith, rw (get_or-take count list j 0 l) is);
+    }
+
 -- the place after j, as the definitions have it
 next : (j : ℕ) → j + 1 ≡ suc j
 next j = omega arith
-
--- no place is left
-all : {count j : ℕ} → j ≤ count → count ≤ j → count ≡ j
-all m l = omega arith
 
 -- every cell, as both loops begin
 all-cells : (p : List ℕ) {s : List ℕ} {cells : ℕ} → cells ≡ cells_of p → SetIs s (within 0 cells) → SetIs s (within 0 (cells_of p))
 all-cells p e h = set-ext h λ c m. rw e
 
--- ---- `de_of`: at place j of the list
-pub record Saving (p at list dead : List ℕ) (count : ℕ) (de : List ℕ) (saved : Bool) (j : ℕ) : Type 0 where
-  pub set : SetIs de (dead_all p at list dead j)
-  pub is : saved ≡ saves p at list j
-  pub most : j ≤ count
+-- ---- `de_of`: at place j of the list, the set of the CHECKPOINTs passed, none if there was none
+module _ (p at list dead : List ℕ) (cells : CellSet) where
+  abbrev pub Saving : Option CellSet → ℕ → Type 0
+  Saving None j = (saves p at list j ≡ false) × SetIs cells.words (dead_all p at list dead j)
+  Saving (Some de) j = (saves p at list j ≡ true) × SetIs de.words (dead_all p at list dead j)
 
-module _ (p at list dead : List ℕ) (count : ℕ) where
-  pub saving-first : {de : List ℕ} {cells j : ℕ} {saved : Bool} → cells ≡ cells_of p → SetIs de (within 0 cells) → j ≡ 0 → saved ≡ false
-      → Saving p at list dead count de saved j
-  saving-first e h z n = rw (z, n) (record { set = all-cells p e h; is = refl; most = omega arith })
+  pub saving-first : {n : ℕ} → n ≡ cells_of p → SetIs cells.words (within 0 n) → Saving None 0
+  saving-first e h = (refl, all-cells p e h)
 
-  module _ {de : List ℕ} {saved : Bool} {j : ℕ} (q : Saving p at list dead count de saved j) (l : j < count) where
-    -- a CHECKPOINT
-    pub saving-turn : {s de' : List ℕ} {saved' : Bool} → byte p (offset_at p at list j) ≡ 0x0E → s ≡ take 4 (drop (4 * get_or list j 0) dead)
-        → SetIs de' (λ c. min (has de c) (has s c)) → saved' ≡ true → Saving p at list dead count de' saved' (j + 1)
-    saving-turn {s} b e h y =
-        let t = eq-eqb (byte p (offset_at p at list j)) 0x0E b in
-        record {
-          set = set-ext h λ c m.
-              let loaded : has s c ≡ member dead (4 * get_or list j 0) c = ap (λ (x : List ℕ). has x c) e ∙ has-load dead (4 * get_or list j 0) c m in
-              ap₂ min (q.set.members c m) loaded ∙ rw (next j, t);
-          is = rw (next j, t) y;
-          most = omega arith;
-        }
+  -- a CHECKPOINT
+  pub saving-turn : (de : Option CellSet) (j : ℕ) {before next_de : CellSet} {s : List ℕ} → Saving de j → byte p (offset_at p at list j) ≡ 0x0E
+      → before ≡ unwrap_or de cells → s ≡ take 4 (drop (4 * get_or list j 0) dead) → SetIs next_de.words (λ c. min (has before.words c) (has s c))
+      → Saving (Some next_de) (j + 1)
+  saving-turn de j {before} {next_de} {s} q b u e h = rw (next j, t) (refl, set-ext h λ c m. ap₂ min ((set de q u).members c m) (loaded c m) ∙ rw t)
+    where
+      t : nat_eq (byte p (offset_at p at list j)) 0x0E ≡ true
+      t = eq-eqb (byte p (offset_at p at list j)) 0x0E b
 
-    -- another instruction
-    pub saving-past : ¬ (byte p (offset_at p at list j) ≡ 0x0E) → Saving p at list dead count de saved (j + 1)
-    saving-past n =
-        let t = ne_eqb (byte p (offset_at p at list j)) 0x0E n in
-        record {
-          set = set-ext q.set λ c m. rw (next j, t);
-          is = rw (next j, t) q.is;
-          most = omega arith;
-        }
+      loaded : (c : ℕ) → c < 256 → has s c ≡ member dead (4 * get_or list j 0) c
+      loaded c m = ap (λ (x : List ℕ). has x c) e ∙ has-load dead (4 * get_or list j 0) c m
+
+      set : (de : Option CellSet) → Saving de j → before ≡ unwrap_or de cells → SetIs before.words (dead_all p at list dead j)
+      set None q u = rw u q.1
+      set (Some de) q u = rw u q.1
+
+  -- another instruction
+  pub saving-past : (de : Option CellSet) (j : ℕ) → Saving de j → ¬ (byte p (offset_at p at list j) ≡ 0x0E) → Saving de (j + 1)
+  saving-past None j q n = let t = ne_eqb (byte p (offset_at p at list j)) 0x0E n in rw (next j, t) (q.0, set-ext q.1 λ c m. rw t)
+  saving-past (Some de) j q n = let t = ne_eqb (byte p (offset_at p at list j)) 0x0E n in rw (next j, t) (q.0, set-ext q.1 λ c m. rw t)
 
   -- the loop is left
-  module _ {de : List ℕ} {saved : Bool} {j : ℕ} (q : Saving p at list dead count de saved j) (l : count ≤ j) where
-    pub saving-some : saved ≡ true → SetIs de (λ c. cond (saves p at list count) (dead_all p at list dead count c) 0)
-    saving-some t = set-ext q.set λ c m. rw (all q.most l, ← q.is, t)
-
-    pub saving-none : {s : List ℕ} → saved ≡ false → SetIs s (λ c. 0) → SetIs s (λ c. cond (saves p at list count) (dead_all p at list dead count c) 0)
-    saving-none t h = set-ext h λ c m. rw (all q.most l, ← q.is, t)
+  pub saving-done : (de : Option CellSet) {j count : ℕ} {none result : CellSet} → Saving de j → j ≡ count → SetIs none.words (λ c. 0) → result ≡ unwrap_or de none
+      → SetIs result.words (λ c. cond (saves p at list count) (dead_all p at list dead count c) 0)
+  saving-done None q e h u = rw (u, ← e, q.0) h
+  saving-done (Some de) q e h u = rw (u, ← e, q.0) q.1
 
 -- ---- `ro_of`: at place j of the list
-pub record Keeping (p at list : List ℕ) (count : ℕ) (ro : List ℕ) (j : ℕ) : Type 0 where
-  pub set : SetIs ro (kept_all p at list j)
-  pub most : j ≤ count
+module _ (p at list : List ℕ) where
+  pub keeping-first : {ro : List ℕ} {cells : ℕ} → cells ≡ cells_of p → SetIs ro (within 0 cells) → SetIs ro (kept_all p at list 0)
+  keeping-first e h = all-cells p e h
 
-module _ (p at list : List ℕ) (count : ℕ) where
-  pub keeping-first : {ro : List ℕ} {cells j : ℕ} → cells ≡ cells_of p → SetIs ro (within 0 cells) → j ≡ 0 → Keeping p at list count ro j
-  keeping-first e h z = rw z (record { set = all-cells p e h; most = omega arith })
-
-  module _ {ro : List ℕ} {j : ℕ} (q : Keeping p at list count ro j) where
-    pub keeping-turn : {w ro' : List ℕ} → j < count → SetIs w (may_def_of (instruction_at_of p (offset_at p at list j))) → SetIs ro' (λ c. has ro c - has w c)
-        → Keeping p at list count ro' (j + 1)
-    keeping-turn l h d = record { set = set-ext (set-difference q.set h d) λ c m. rw (next j); most = omega arith }
-
-    pub keeping-done : count ≤ j → SetIs ro (kept_all p at list count)
-    keeping-done l = set-ext q.set λ c m. rw (all q.most l)
+  pub keeping-turn : (j : ℕ) {w ro ro' : List ℕ} → SetIs ro (kept_all p at list j) → SetIs w (may_def_of (instruction_at_of p (offset_at p at list j)))
+      → SetIs ro' (λ c. has ro c - has w c) → SetIs ro' (kept_all p at list (j + 1))
+  keeping-turn j q h d = set-ext (set-difference q h d) λ c m. rw (next j)
 
 -- ---- `written`
 -- the table of one of two instructions

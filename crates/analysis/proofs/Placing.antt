@@ -7,8 +7,8 @@ use mathlib.Core.Bool.{true, cond}
 use Prim.Native.Nat.{ℕ, zero, suc, ◌+◌, ◌-◌, ◌*◌, ◌/◌, ◌%◌, ◌≤◌, ◌<◌, zero-le}
 use native.Mathlib.Nat.{add-zero}
 use native.Mathlib.Omega.{arith}
-use lib.ListN.{length, get_or, take}
-use lib.Seq.{sets}
+use lib.ListN.{length, get_or, take, length-take}
+use lib.Seq.{sets, get_or-take}
 use lib.Dec.{eqb}
 use borrow.Author.Tests.{eqb-true, eqb-false, eq-eqb, ne_eqb}
 use Rattle.cellset.specs.Bits.{bit, member}
@@ -22,7 +22,8 @@ use Rattle.program.proofs.Accepted.{Accepted}
 use Rattle.graph.specs.Tables.{count_of, start_of, Offsets}
 use Rattle.graph.proofs.Numbers.{index_of, excludes-take, excludes-all, number_of}
 use Rattle.analysis.specs.Analyse.{ExcludeSets}
-use Rattle.analysis.specs.Search.{Known, Found, saves, dead_all, kept_all, SetsAt}
+use Rattle.analysis.specs.Search.{Mapped, Known, Found, saves, dead_all, kept_all, SetsAt}
+use Rattle.analysis.proofs.Searching.{start-inside, node-start}
 use Rattle.analysis.proofs.Gathering.{de-set, de-clear, ro-set, ro-clear}
 
 -- two sets stored from index `to` on
@@ -106,6 +107,13 @@ pub record Placing (p s₀ s : List ℕ) (to i : ℕ) : Type 0 where
   pub next : to ≡ 8 * before p i
   pub done : (k : ℕ) → k < i → byte p (start_of p k) ≡ 0x0D → SetsAt p (start_of p k) s (8 * before p k)
   pub rest : (k : ℕ) → to ≤ k → get_or s k 0 ≡ get_or s₀ k 0
+
+-- number i of the front of the offsets' table is an instruction, whose offset stands there
+pub table-node : {p at left right : List ℕ} {n i : ℕ} → Mapped p at left right → n ≡ count_of p → i < length (take n at)
+    → (i < count_of p) × (get_or (take n at) i 0 ≡ start_of p i) × (start_of p i < length p)
+table-node {at = at} {n = n} {i = i} m e l =
+    let few : i < n = omega (arith, length-take n at) in
+    (omega arith, get_or-take n at i 0 few ∙ node-start m i (omega arith), start-inside m.passed i (omega arith))
 
 pub placing-first : (p s : List ℕ) → Placing p s s 0 0
 unfolding excludes

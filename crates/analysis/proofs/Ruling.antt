@@ -10,12 +10,11 @@ use borrow.Author.Tests.{ltb-true, ltb-false}
 use Rattle.program.specs.Check as check
 use Rattle.program.specs.Check.{Answer, check_of}
 use Rattle.program.specs.Grounds.{Allowed, granted, Counts, Ruled}
-use Rattle.program.specs.declared.Checked.{Checked}
-use Rattle.program.specs.declared.Checked.TheVariants as checked
+use Rattle.program.specs.Check.{Checked}
 use Rattle.program.proofs.Grounds.{ruled, one_answer, accepted-values, ruled-passes, ruled-refuses, by-check, by-words, by-own}
 use Rattle.program.proofs.Tests.{bool_cases}
 use Rattle.analysis.specs.Analyse.{too_short, analysed_from, analyse_of, answer_of, Ground}
-use Rattle.analysis.specs.declared.Analysed.{Analysed}
+use Rattle.analysis.specs.Analyse.{Analysed}
 
 module _ (p : List ℕ) (dead sets : ℕ) where
   -- it has no grounds of its own
@@ -29,8 +28,8 @@ module _ (p : List ℕ) (dead sets : ℕ) where
 
   -- from what check answers
   from-check : (k : Checked) → Ruled p (check.answer_of k) → Allowed (Ground p dead sets) (Counts p) (answer_of (analysed_from k (too_short dead sets)))
-  from-check (checked.Refused n) r = by-check none-own (ruled-refuses r (λ e. omega (arith, accepted-values r e)))
-  from-check (checked.Program cells instructions exclude_count) r =
+  from-check (check.Refused n) r = by-check none-own (ruled-refuses r (λ e. omega (arith, accepted-values r e)))
+  from-check (check.Program cells instructions exclude_count) r =
       let none = ruled-passes r refl in
       let three : Counts p (cells ∷ instructions ∷ exclude_count ∷ []) = ap (λ (a : Answer). a.values) (one_answer p r (granted none refl)) in
       bool_cases (ltb dead 2048)

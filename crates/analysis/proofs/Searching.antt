@@ -16,7 +16,7 @@ use Rattle.program.specs.Starts.{among}
 use Rattle.program.proofs.Tests.{bool_cases, clash, or_cases}
 use Rattle.program.proofs.Accepted.{accepted, start-within}
 use Rattle.liveness.specs.Queue.{flag, Room, Queue, Pushed, Grown}
-use Rattle.liveness.proofs.Waiting.{count_most, room-left, pushed-flag, grown-push, queue-push}
+use Rattle.liveness.proofs.Waiting.{count_most, room-left, pushed-flag, grown-push, queue-push, queue-none}
 use Rattle.graph.specs.Tables.{count_of, start_of, Passed, Goes, Ways}
 use Rattle.graph.proofs.Numbers.{start-of}
 use Rattle.analysis.specs.Paths.{Follows, Region, first, onward}
@@ -230,11 +230,13 @@ module _ (p at left right : List ℕ) (ways : Ways p at left right) where
         all = all;
       }
 
+-- nothing is listed before the search
+pub none-listed : {p at left right list : List ℕ} {seen : List Bool} → Mapped p at left right → length list ≡ 512 → length seen ≡ 512
+    → ((k : ℕ) → flag seen k ≡ false) → Queue (count_of p) list seen 0
+none-listed m l s none = queue-none (l ∙ sym s) (omega (arith, few-of m.passed)) none
+
 -- ---- what the code asks of an instruction, and of the one at the front of the list
 module _ {p at left right : List ℕ} (m : Mapped p at left right) (k : ℕ) (l : k < count_of p) where
-  pub node-small : k < 512
-  node-small = omega (arith, few-of m.passed)
-
   pub node-start : get_or at k 0 ≡ start_of p k
   node-start = m.ways.at_is k l
 
@@ -248,9 +250,6 @@ module _ {p at left right : List ℕ} (m : Mapped p at left right) {i : ℕ} {li
 
   front-node : get_or list done 0 < count_of p
   front-node = s.queue.below done l
-
-  pub front-small : get_or list done 0 < 512
-  front-small = node-small m (get_or list done 0) front-node
 
   pub front-start : get_or at (get_or list done 0) 0 ≡ start_of p (get_or list done 0)
   front-start = node-start m (get_or list done 0) front-node

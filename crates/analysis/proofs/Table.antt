@@ -14,8 +14,8 @@ use Rattle.instruction.specs.Table.{access, may_def_of, successors}
 use Rattle.program.specs.Starts.{starts_from, starts, refusal_at_of, first_refusal, excludes, last_opcode, among, jumps_among}
 use Rattle.program.specs.Places.{is_start}
 use Rattle.program.specs.Check.{check_of}
-use Rattle.program.specs.declared.Checked.{Checked}
-use Rattle.program.specs.declared.Checked.TheVariants.{Program, Refused}
+use Rattle.program.specs.Check.{Checked}
+use Rattle.program.specs.Check.{Program, Refused}
 use Rattle.program.proofs.Tests.{bool_cases, clash, and_both, or_cases}
 use Rattle.program.proofs.Accepted.{Accepted, accepted}
 use Rattle.graph.specs.Tables.{Passed}

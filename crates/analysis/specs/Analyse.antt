@@ -1,6 +1,6 @@
 -- What `analyse` answers, and what it leaves in the two lent buffers: document 01, "The sets".
 -- Assumes nothing.
-use Rattle.std.specs.Prelude.{ℕ, ◌+◌, ◌*◌, ◌≤◌, ◌<◌, ◌≡◌, List, [], ◌∷◌, Bool, true, cond, ◌||◌, ◌⊎◌, length, get_or, ltb}
+use Rattle.std.specs.Prelude.{ℕ, ◌+◌, ◌*◌, ◌≤◌, ◌<◌, ◌≡◌, List, [], ◌∷◌, Bool, true, cond, ◌||◌, ◌⊎◌, length, get_or, ltb, Result, Ok, Err}
 use Rattle.cellset.specs.Bits.{member}
 use Rattle.instruction.specs.Bytes.{cells_of}
 use Rattle.instruction.specs.Table.{must_def_of}
@@ -9,16 +9,26 @@ use Rattle.program.specs.Starts.{starts, excludes}
 use Rattle.program.specs.Check.{Answer, check_of}
 use Rattle.program.specs.Grounds.{Allowed, Counts, CallGround}
 use Rattle.program.specs.Places.{is_exclude, exclude_number}
-use Rattle.program.specs.declared.Checked.{Checked}
-use Rattle.program.specs.declared.Checked.TheVariants as checked
+use Rattle.program.specs.Check.{Checked}
+use Rattle.program.specs.Check as checked
 use Rattle.graph.specs.Tables.{count_of, start_of}
 use Rattle.analysis.specs.Paths.{Live, Dead, DEBy, RO, LiveSaveBy, Written}
-use Rattle.analysis.specs.declared.Analysed.{Analysed}
-use Rattle.analysis.specs.declared.Analysed.TheVariants.{Sets, Refused}
+use Rattle.program.specs.Refusal.{refusal_number}
+use Rattle.program.specs.declared.Sizes.{Sizes}
+use Rattle.program.specs.declared.refusal.Refusal.{Refusal}
 
 -- 9, "a word buffer too short": "of at least 2,048 and 512 words"
 abbrev pub too_short : (dead sets : ℕ) → Bool
 too_short dead sets = ltb dead 2048 || ltb sets 512
+
+-- what analyse gives: the program's sizes, or the number of a refusal
+pub data Analysed : Type 0 where
+  Sets : (cells instructions excludes : ℕ) → Analysed
+  Refused : ℕ → Analysed
+
+abbrev pub analysed_of : Result Sizes Refusal → Analysed
+analysed_of (Ok s) = Sets s.cells s.instructions s.excludes
+analysed_of (Err r) = Refused (refusal_number r)
 
 -- "Analyse checks too": the refusals 1 to 8 come before 9
 abbrev pub analysed_from : Checked → Bool → Analysed

@@ -10,23 +10,13 @@ mod region;
 ghost use Rattle.std.specs.Prelude.{◌≡◌, ◌≤◌, length};
 ghost use Rattle.instruction.specs.Bytes.{cells_of};
 ghost use Rattle.graph.specs.Tables.{Passed};
-ghost use Rattle.analysis.specs.Analyse.{DeadSets, ExcludeSets, Analyses};
+ghost use Rattle.analysis.specs.Analyse.{analysed_of, DeadSets, ExcludeSets, Analyses};
 
 use graph::tables;
 use liveness::settle;
-use program::{Checked, check};
+use program::refusal::Refusal;
+use program::{Sizes, check};
 use region::exclude_sets;
-
-// The answer of `analyse`; `answer_of` of specs/Analyse.antt gives document 01's number and values.
-#[derive(Clone, Copy)]
-pub enum Analysed {
-    Sets {
-        cells: u32,
-        instructions: u32,
-        excludes: u32,
-    },
-    Refused(u32),
-}
 
 // Fills both buffers for a program that check passes.
 fn fill(p: &[u8], cells: u32, dead: &mut [u64], sets: &mut [u64])
@@ -43,29 +33,15 @@ fn fill(p: &[u8], cells: u32, dead: &mut [u64], sets: &mut [u64])
     exclude_sets(p, cells as u64, n, &at, &left, &right, &writes, dead, sets);
 }
 
-// The analysis of a program, into two lent buffers.
-pub fn analyse(program: &[u8], dead: &mut [u64], sets: &mut [u64]) -> Analysed
-    ensures { Analyses program.now dead.old sets.old dead.new sets.new result }
+// The analysis of a program, into two lent buffers; `answer_of` of specs/Analyse.antt gives document 01's number and
+// values.
+pub fn analyse(program: &[u8], dead: &mut [u64], sets: &mut [u64]) -> Result<Sizes, Refusal>
+    ensures { Analyses program.now dead.old sets.old dead.new sets.new (analysed_of result) }
 {
-    match check(program) {
-        Checked::Refused(number) => Analysed::Refused(number),
-        Checked::Program {
-            cells,
-            instructions,
-            excludes,
-        } => {
-            if dead.len() < 2048 {
-                return Analysed::Refused(9);
-            }
-            if sets.len() < 512 {
-                return Analysed::Refused(9);
-            }
-            fill(program, cells, dead, sets);
-            Analysed::Sets {
-                cells,
-                instructions,
-                excludes,
-            }
-        }
+    let sizes = check(program)?;
+    if dead.len() < 2048 || sets.len() < 512 {
+        return Err(Refusal::ShortWords);
     }
+    fill(program, sizes.cells, dead, sets);
+    Ok(sizes)
 }

@@ -50,23 +50,21 @@ fn search(
     count
 }
 
-// The cells that are dead at every CHECKPOINT among the first `count` of the list, none if there is none.
-fn de_of(p: &[u8], cells: u64, at: &[u16], dead: &[u64], list: &[u16], count: usize) -> CellSet
-    requires { Listed p.now at.now list.now count × (cells ≡ cells_of p.now) × (2048 ≤ length dead.now) }
-    ensures { SetIs result.words (λ c. cond (saves p.now at.now list.now count) (dead_all p.now at.now list.now dead.now count c) 0) }
+// The cells that are dead at every CHECKPOINT of the list, none if there is none.
+fn de_of(p: &[u8], cells: u64, at: &[u16], dead: &[u64], list: &[u16]) -> CellSet
+    requires { Listed p.now at.now list.now (length list.now) × (cells ≡ cells_of p.now) × (2048 ≤ length dead.now) }
+    ensures { SetIs result.words (λ c. cond (saves p.now at.now list.now (length list.now)) (dead_all p.now at.now list.now dead.now (length list.now) c) 0) }
 {
-    let mut de = cellset::below(cells);
-    let mut saved = false;
-    let mut j = 0;
-    while j < count {
-        let k = list[j] as usize;
-        j += 1;
+    let all = cellset::below(cells);
+    let mut de = None;
+    for k in list {
+        let k = *k as usize;
         if p[at[k] as usize] == CHECKPOINT {
-            de = cellset::intersection(de, cellset::load(dead, 4 * k));
-            saved = true;
+            let before = de.unwrap_or(all);
+            de = Some(cellset::intersection(before, cellset::load(dead, 4 * k)));
         }
     }
-    if saved { de } else { cellset::empty() }
+    de.unwrap_or(cellset::empty())
 }
 
 // The cells that instruction k, at offset o, may write: what it must write, but for PUT.
@@ -80,17 +78,16 @@ fn written(p: &[u8], o: usize, k: usize, writes: &[u64]) -> CellSet
     cellset::load(writes, 4 * k)
 }
 
-// The cells that none of the first `count` of the list may write.
-fn ro_of(p: &[u8], cells: u64, at: &[u16], writes: &[u64], list: &[u16], count: usize) -> CellSet
-    requires { Listed p.now at.now list.now count × (cells ≡ cells_of p.now) × (2048 ≤ length writes.now)
+// The cells that none of the list may write. Apart from `de_of`, which meets sets at CHECKPOINTs where this takes
+// sets away everywhere: one fold with both as parameters is no plainer.
+fn ro_of(p: &[u8], cells: u64, at: &[u16], writes: &[u64], list: &[u16]) -> CellSet
+    requires { Listed p.now at.now list.now (length list.now) × (cells ≡ cells_of p.now) × (2048 ≤ length writes.now)
         × ((i c : ℕ) → i < count_of p.now → c < 256 → member writes.now (4 * i) c ≡ must_def_of (instruction_at_of p.now (start_of p.now i)) c) }
-    ensures { SetIs result.words (kept_all p.now at.now list.now count) }
+    ensures { SetIs result.words (kept_all p.now at.now list.now (length list.now)) }
 {
     let mut ro = cellset::below(cells);
-    let mut j = 0;
-    while j < count {
-        let k = list[j] as usize;
-        j += 1;
+    for k in list {
+        let k = *k as usize;
         ro = cellset::difference(ro, written(p, at[k] as usize, k, writes));
     }
     ro
@@ -116,8 +113,9 @@ fn exclude_set(
     let mut list = [0u16; 512];
     let mut seen = [false; 512];
     let count = search(p, at, left, right, i, &mut list, &mut seen);
-    let de = de_of(p, cells, at, dead, &list, count);
-    let ro = ro_of(p, cells, at, writes, &list, count);
+    let region = &list[..count];
+    let de = de_of(p, cells, at, dead, region);
+    let ro = ro_of(p, cells, at, writes, region);
     cellset::store(sets, to, de);
     cellset::store(sets, to + 4, ro);
 }
@@ -139,12 +137,9 @@ pub fn exclude_sets(
     ensures { ExcludeSets p.now sets.old sets.new }
 {
     let mut to = 0;
-    let mut i = 0;
-    while i < n {
-        let k = i;
-        i += 1;
-        if p[at[k] as usize] == EXCLUDE {
-            exclude_set(p, cells, at, left, right, writes, dead, k, sets, to);
+    for (i, o) in at[..n].iter().enumerate() {
+        if p[*o as usize] == EXCLUDE {
+            exclude_set(p, cells, at, left, right, writes, dead, i, sets, to);
             to += 8;
         }
     }

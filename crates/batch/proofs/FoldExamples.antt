@@ -19,7 +19,7 @@ use Rattle.journal.proofs.Torn.{trimmed-nil}
 use Rattle.journal.proofs.Back.{shape-whole, read_back}
 use Rattle.journal.proofs.Apart.{other-kind}
 use Rattle.step.specs.State.{env_of}
-use Rattle.folding.specs.declared.Folded.TheVariants.{Stored, Refused}
+use Rattle.folding.specs.Fold.{Stored, Refused}
 use Rattle.folding.specs.Fold as fold
 use Rattle.folding.specs.Fold.{byte_chip, byte_facts, Holds, held_from, folded_bytes, fold_steps, outcome, Begun, Puts, Folds}
 use Rattle.folding.specs.Lists.{Folding, Finished}

@@ -26,8 +26,8 @@ use Rattle.step.specs.State.{env_of, Machine}
 use Rattle.step.specs.Ready.{Legal}
 use Rattle.recovery.specs.Recover as recovery
 use Rattle.recovery.specs.Recover.{Recovers}
-use Rattle.recovery.specs.declared.Recovered.TheVariants.{Restored}
-use Rattle.folding.specs.declared.Folded.TheVariants.{Refused}
+use Rattle.recovery.specs.Recover.{Restored}
+use Rattle.folding.specs.Fold.{Refused}
 use Rattle.folding.specs.Fold.{byte_chip, byte_facts, Holds, refusal_of, Outcome, Folds}
 use Rattle.folding.specs.Lists.{SameState, Finished}
 use Rattle.folding.proofs.Calls.{number_is, puts-number}

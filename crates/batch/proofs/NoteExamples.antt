@@ -20,8 +20,8 @@ use Rattle.journal.proofs.Back.{shape-whole}
 use Rattle.step.specs.State.{env_of, Machine}
 use Rattle.recovery.specs.Recover as recovery
 use Rattle.recovery.specs.Recover.{Recovers}
-use Rattle.recovery.specs.declared.Recovered.TheVariants.{Restored}
-use Rattle.folding.specs.declared.Folded.TheVariants.{Stored}
+use Rattle.recovery.specs.Recover.{Restored}
+use Rattle.folding.specs.Fold.{Stored}
 use Rattle.folding.specs.Fold as fold
 use Rattle.folding.specs.Fold.{byte_chip, byte_facts, held_from, folded_bytes, fold_steps, outcome, Puts, Folds}
 use Rattle.folding.specs.Lists.{Folding, Finished}

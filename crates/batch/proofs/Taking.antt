@@ -10,14 +10,14 @@ use lib.IntN.{ℤ}
 use Rattle.program.specs.Places.{is_start}
 use Rattle.analysis.specs.Paths.{Region}
 use Rattle.journal.specs.declared.Commit.{Commit}
-use Rattle.journal.specs.declared.Scanned.TheVariants.{BadLength, Damaged, Found}
+use Rattle.journal.specs.Scanned.{BadLength, Damaged, Found}
 use Rattle.journal.specs.Format.{Checkpoint, format_for}
 use Rattle.journal.specs.Reading.{facts_of, first, last_of, saved_value}
 use Rattle.journal.specs.Answer.{Taken}
 use Rattle.journal.proofs.Back.{read-shape}
 use Rattle.step.specs.State.{env_of, Machine}
 use Rattle.recovery.specs.Recover.{Outcome, recover_of, Recovers, refuses, reads}
-use Rattle.recovery.specs.declared.Recovered.TheVariants.{Restored}
+use Rattle.recovery.specs.Recover.{Restored}
 use Rattle.recovery.proofs.Laws.{restored-apart}
 use Rattle.restart.specs.Reference.{Frame, frame_of, ref_at}
 use Rattle.restart.specs.History.{System, History, begins, refused_recovery, refused_run_of, recovers, crashes, runs, crashed_run}

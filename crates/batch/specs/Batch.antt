@@ -9,8 +9,8 @@ use Rattle.journal.specs.Format.{unowned, owner_of_plan}
 use Rattle.step.specs.State.{env_of, Machine}
 use Rattle.recovery.specs.Recover as recovery
 use Rattle.recovery.specs.Recover.{Recovers}
-use Rattle.recovery.specs.declared.Recovered.TheVariants.{Restored}
-use Rattle.folding.specs.declared.Folded.TheVariants.{Refused}
+use Rattle.recovery.specs.Recover.{Restored}
+use Rattle.folding.specs.Fold.{Refused}
 use Rattle.folding.specs.Fold.{Holds, Outcome, Folds}
 use Rattle.folding.specs.Lists.{SameState, Finished}
 use Rattle.batch.specs.Until.{must_until, FoundBy, EitherSets}

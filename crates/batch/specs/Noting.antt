@@ -11,7 +11,7 @@ use Rattle.journal.specs.Answer.{Taken}
 use Rattle.step.specs.State.{env_of, Machine}
 use Rattle.recovery.specs.Recover as recovery
 use Rattle.recovery.specs.Recover.{Recovers}
-use Rattle.recovery.specs.declared.Recovered.TheVariants.{Restored}
+use Rattle.recovery.specs.Recover.{Restored}
 use Rattle.folding.specs.Lists.{Finished}
 use Rattle.notes.specs.Notes.{Noted}
 use Rattle.batch.specs.Until.{EitherSets}

@@ -7,11 +7,11 @@ use mathlib.Core.List.{List, [], ◌∷◌, ◌++◌, append_assoc}
 use native.Mathlib.Omega.{arith}
 use lib.ListN.{length, take, drop, length-append}
 use lib.Seq.{take_at, drop_at}
-use Rattle.journal.specs.declared.Scanned.TheVariants.{BadLength, Damaged, Found}
+use Rattle.journal.specs.Scanned.{BadLength, Damaged, Found}
 use Rattle.step.specs.declared.Regs.{Regs}
 use Rattle.step.specs.State.{env_of, Machine}
 use Rattle.recovery.specs.Recover.{Outcome, recover_of, Recovers, refuses, reads}
-use Rattle.recovery.specs.declared.Recovered.TheVariants.{Restored}
+use Rattle.recovery.specs.Recover.{Restored}
 use Rattle.recovery.proofs.Laws.{restored-apart}
 use Rattle.folding.specs.Lists.{SameState}
 use Rattle.layout.specs.Numbers.{bytes_of_all}

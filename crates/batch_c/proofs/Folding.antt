@@ -11,10 +11,10 @@ use borrow.Author.Tests.{eq-eqb}
 use Rattle.journal.specs.Format.{owner_of_plan}
 use Rattle.step.specs.State.{env_of}
 use Rattle.recovery.specs.Recover as recovery
-use Rattle.recovery.specs.declared.Recovered.{Recovered}
-use Rattle.recovery.specs.declared.Recovered.TheVariants.{Restored}
-use Rattle.folding.specs.declared.Folded.{Folded}
-use Rattle.folding.specs.declared.Folded.TheVariants.{Stored, Refused}
+use Rattle.recovery.specs.Recover.{Recovered}
+use Rattle.recovery.specs.Recover.{Restored}
+use Rattle.folding.specs.Fold.{Folded}
+use Rattle.folding.specs.Fold.{Stored, Refused}
 use Rattle.folding.specs.Fold.{outcome, Begun, Folds, answer_of, numbers_of}
 use Rattle.folding.specs.Lists as lists
 use Rattle.folding.proofs.Calls.{refused-not-zero}

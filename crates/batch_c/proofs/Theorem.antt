@@ -31,8 +31,8 @@ use Rattle.batch.specs.Noting as batch
 use Rattle.batch.specs.Noting.{frame_read}
 use Rattle.batch.proofs.Noting as noting
 use Rattle.batch.proofs.Folding.{noted-passed-taken, folded-taken, taken-foldable, folded-recovers}
-use Rattle.folding.specs.declared.Folded.{Folded}
-use Rattle.folding.specs.declared.Folded.TheVariants.{Stored, Refused}
+use Rattle.folding.specs.Fold.{Folded}
+use Rattle.folding.specs.Fold.{Stored, Refused}
 use Rattle.folding.specs.Fold.{answer_of}
 use Rattle.batch_c.specs.Batch.{FoundUntil, EitherSets, Used, Q3, Q3AnyTime, Passed, Batch, Batches, NeverRefused, AlwaysFoldable, Q8}
 use Rattle.batch_c.specs.Noting.{NotedPassed, NotedBatch, NotedBatches, NotedFoldable, GoesOn, Q14, Q14Until}

@@ -8,7 +8,7 @@ use Rattle.step.specs.State.{env_of, Machine}
 use Rattle.step.specs.Ready.{Legal}
 use Rattle.recovery.specs.Recover as recovery
 use Rattle.recovery.specs.Recover.{Recovers}
-use Rattle.recovery.specs.declared.Recovered.TheVariants.{Restored}
+use Rattle.recovery.specs.Recover.{Restored}
 use Rattle.folding.specs.Fold.{Holds, folded_bytes, Begun, numbers_of}
 use Rattle.layout.specs.Layout.{state_size, bytes_of_state}
 use Rattle.pitskelo.specs.Runs.{sets_in, RecoverCall}

@@ -5,7 +5,7 @@ use Rattle.journal.specs.Format.{unowned, owner_of_plan}
 use Rattle.step.specs.State.{env_of, Machine}
 use Rattle.recovery.specs.Recover as recovery
 use Rattle.recovery.specs.Recover.{Recovers}
-use Rattle.recovery.specs.declared.Recovered.TheVariants.{Restored}
+use Rattle.recovery.specs.Recover.{Restored}
 use Rattle.notes.specs.Notes.{Noted}
 use Rattle.layout.specs.Layout.{machine_in}
 use Rattle.pitskelo.specs.Runs.{sets_in, RecoverCall}

@@ -15,6 +15,7 @@ use lib.Dec.{eqb}
 use lib.ListN.{length, get_or, length-map, get_or-map, length-append, get_or-append}
 use lib.Seq.{get_or-append-add}
 use mir.Syntax.{w64}
+use Rattle.std.specs.List.{sum_by}
 use mir.Val.{Fits}
 use Rattle.cellset.specs.Bits.{bit, has}
 use Rattle.cellset.specs.Members.{members_from, members, bits_from}
@@ -164,14 +165,29 @@ module _ (s : List ℕ) (fits : (i : ℕ) → Fits w64 (get_or s i 0)) where
       ∙ ap (λ (k : ℕ). k + length (members_from s (64 * suc i) n)) (cells-length s i (fits i).fits)
 
   -- `count`: the sum over the four words
-  pub counted : ones (get_or s 0 0) + ones (get_or s 1 0) + ones (get_or s 2 0) + ones (get_or s 3 0) ≡ length (members s)
+  count_words : ones (get_or s 0 0) + ones (get_or s 1 0) + ones (get_or s 2 0) + ones (get_or s 3 0) ≡ length (members s)
   unfolding members
-  counted =
+  count_words =
       let e₀ : length (members_from s 0 256) ≡ ones (get_or s 0 0) + length (members_from s 64 192) = length-word 0 192 in
       let e₁ : length (members_from s 64 192) ≡ ones (get_or s 1 0) + length (members_from s 128 128) = length-word 1 128 in
       let e₂ : length (members_from s 128 128) ≡ ones (get_or s 2 0) + length (members_from s 192 64) = length-word 2 64 in
       let e₃ : length (members_from s 192 64) ≡ ones (get_or s 3 0) + length (members_from s 256 0) = length-word 3 0 in
       omega (arith, ap length (members-end s 256))
+
+-- the sum over a list of four
+sum_four : (f : ℕ → ℕ) (s : List ℕ) → length s ≡ 4 → sum_by f s ≡ f (get_or s 0 0) + f (get_or s 1 0) + f (get_or s 2 0) + f (get_or s 3 0)
+sum_four f [] e = absurd (omega arith)
+sum_four f (p ∷ []) e = absurd (omega arith)
+sum_four f (p ∷ q ∷ []) e = absurd (omega arith)
+sum_four f (p ∷ q ∷ r ∷ []) e = absurd (omega arith)
+sum_four f (p ∷ q ∷ r ∷ t ∷ []) e = omega arith
+sum_four f (p ∷ q ∷ r ∷ t ∷ u ∷ s) e = absurd (omega arith)
+
+pub counted : (s : List ℕ) → length s ≡ 4 → ((i : ℕ) → Fits w64 (get_or s i 0)) → sum_by ones s ≡ length (members s)
+counted s e fits = sum_four ones s e ∙ count_words s fits
+
+pub counted-le : (s : List ℕ) → length s ≡ 4 → ((i : ℕ) → Fits w64 (get_or s i 0)) → sum_by ones s ≤ 256
+counted-le s e fits = omega (arith, sum_four ones s e, ones-few s fits 0, ones-few s fits 1, ones-few s fits 2, ones-few s fits 3)
 
 -- `nth_bit`: the bit that is sought is the one with `left` set bits of `rest` below it
 abbrev pub Sought : (w k rest left : ℕ) → Type 0
@@ -182,10 +198,8 @@ pub sought-none : (w k rest left : ℕ) → Sought w k rest left → rest ≡ 0 
 sought-none w k rest left s e = sym (ap (λ (l : List ℕ). get_or l left 64) (ap (λ (x : ℕ). bits_from x 0 64) e ∙ bits_none 0 64)) ∙ s
 
 -- a turn takes away the lowest bit
-pub sought-turn : (w k rest left : ℕ) → Sought w k rest left → 0 < left → Sought w k (bit_and rest (rest - 1)) (left - 1)
-sought-turn w k rest left s h =
-    let e : suc (left - 1) ≡ left = omega arith in
-    sym (bits-clear 64 rest (left - 1)) ∙ ap (λ (n : ℕ). get_or (bits_from rest 0 64) n 64) e ∙ s
+pub sought-turn : (w k rest left next : ℕ) → Sought w k rest left → suc next ≡ left → Sought w k (bit_and rest (rest - 1)) next
+sought-turn w k rest left next s e = sym (bits-clear 64 rest next) ∙ ap (λ (n : ℕ). get_or (bits_from rest 0 64) n 64) e ∙ s
 
 -- where none is to be skipped, it is the lowest
 pub sought-done : (w k rest left : ℕ) → Sought w k rest left → left ≤ 0 → count_trailing_zeros 64 rest ≡ get_or (bits_from w 0 64) k 64

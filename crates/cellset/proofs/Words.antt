@@ -3,17 +3,13 @@
 use mathlib.Core.Path.{◌≡◌, refl, sym, ap, ap₂, ◌∙◌}
 use mathlib.Core.Logic.{⊎_elim}
 use mathlib.Core.List.{List, [], ◌∷◌}
-use mathlib.Core.Bool.{true, false, false≢true}
 use Prim.Native.Nat.{ℕ, zero, suc, ◌+◌, ◌-◌, ◌*◌, ◌/◌, ◌%◌, ◌^◌, ◌≤◌, ◌<◌, min, zero-le}
 use native.Mathlib.Nat.{one-mul, mod-eq_of_lt}
-use native.Mathlib.Numerals.{add-one, add-two, add-three}
 use native.Mathlib.Omega.{arith}
 use lib.Bits.{bit_and, and_mask}
 use lib.Pow.{pow_pos, pow-lt}
 use lib.Dec.{eqb}
-use lib.ListN.{length, get_or, take, drop, set, get_or-eq_default}
-use lib.Seq.{sets, drop-cons, take_all}
-use borrow.Author.Tests.{eq-eqb, eqb-true}
+use lib.ListN.{length, get_or, get_or-eq_default}
 use mir.Syntax.{w64}
 use mir.Val.{Fits}
 use Rattle.cellset.specs.Bits.{bit, has, within}
@@ -28,10 +24,6 @@ test_bit x k = ap (λ (n : ℕ). eqb n 1) (and_mask (x / 2 ^ k) 1)
 -- `1 << k` does not wrap below 64
 pub shifted : (k : ℕ) → k < 64 → 1 * 2 ^ k % 2 ^ 64 ≡ 2 ^ k
 shifted k l = rw one-mul (mod-eq_of_lt (pow-lt l))
-
--- so 1 can be taken from it
-pub shifted-pos : (k : ℕ) → k < 64 → 1 ≤ 1 * 2 ^ k % 2 ^ 64
-shifted-pos k l = rw (shifted k l) (pow_pos k)
 
 -- the m low bits are the cells below n in the word whose first cell is `first`, where m of its 64 cells lie below n
 pub low_bits : (m n first k : ℕ) → m ≡ min 64 (n - first) → k < 64 → bit (2 ^ m - 1) k ≡ within 0 n (first + k)
@@ -57,7 +49,15 @@ pub record Word (f : ℕ → ℕ) (i x : ℕ) : Type 0 where
   pub fits : x < 2 ^ 64
   pub cells : (k : ℕ) → k < 64 → bit x k ≡ f (64 * i + k)
 
--- a set from its four words
+-- a set from its words
+words-set : (f : ℕ → ℕ) (s : List ℕ) → length s ≡ 4 → ((i : ℕ) → i < 4 → Word f i (get_or s i 0)) → SetIs s f
+words-set f s e w = record {
+  four = e;
+  fits = fits-four s e (λ i l. (w i l).fits);
+  members = λ c l. (w (c / 64) (omega arith)).cells (c % 64) (omega arith) ∙ ap f (omega arith);
+}
+
+-- from four of them
 module _ {f : ℕ → ℕ} {p q r s : ℕ} (w₀ : Word f 0 p) (w₁ : Word f 1 q) (w₂ : Word f 2 r) (w₃ : Word f 3 s) where
   word : (i : ℕ) → i < 4 → Word f i (get_or (p ∷ q ∷ r ∷ s ∷ []) i 0)
   word zero l = w₀
@@ -67,11 +67,7 @@ module _ {f : ℕ → ℕ} {p q r s : ℕ} (w₀ : Word f 0 p) (w₁ : Word f 1 
   word (suc (suc (suc (suc n)))) l = absurd (omega arith)
 
   pub four-words : SetIs (p ∷ q ∷ r ∷ s ∷ []) f
-  four-words = record {
-    four = refl;
-    fits = fits-four (p ∷ q ∷ r ∷ s ∷ []) refl (λ i l. (word i l).fits);
-    members = λ c l. (word (c / 64) (omega arith)).cells (c % 64) (omega arith) ∙ ap f (omega arith);
-  }
+  four-words = words-set f (p ∷ q ∷ r ∷ s ∷ []) refl word
 
 -- an operation on words that is `g` at each bit is `g` at each cell of two sets
 module _ (op g : ℕ → ℕ → ℕ) (fits : (u v : ℕ) → u < 2 ^ 64 → v < 2 ^ 64 → op u v < 2 ^ 64)
@@ -83,36 +79,5 @@ module _ (op g : ℕ → ℕ → ℕ) (fits : (u v : ℕ) → u < 2 ^ 64 → v <
     cells = λ k l. bits k (get_or a i 0) (get_or b i 0) (fits-b i).fits l ∙ sym (ap₂ g (has-at a i k l) (has-at b i k l));
   }
 
-  pub wordwise : SetIs
-      (op (get_or a 0 0) (get_or b 0 0) ∷ op (get_or a 1 0) (get_or b 1 0) ∷ op (get_or a 2 0) (get_or b 2 0) ∷ op (get_or a 3 0) (get_or b 3 0) ∷ [])
-      (λ c. g (has a c) (has b c))
-  wordwise = four-words (op-word 0) (op-word 1) (op-word 2) (op-word 3)
-
--- `load`: four words read one by one
-pub loaded : (ws : List ℕ) (at : ℕ) → at + 4 ≤ length ws
-    → get_or ws at 0 ∷ get_or ws (at + 1) 0 ∷ get_or ws (at + 2) 0 ∷ get_or ws (at + 3) 0 ∷ [] ≡ take 4 (drop at ws)
-loaded ws at h =
-    rw (add-one, add-two, add-three, drop-cons ws at 0 (omega arith), drop-cons ws (suc at) 0 (omega arith))
-    (rw (drop-cons ws (suc (suc at)) 0 (omega arith), drop-cons ws (suc (suc (suc at))) 0 (omega arith)))
-
--- a list of four words, written out
-spread : (s : List ℕ) → length s ≡ 4 → get_or s 0 0 ∷ get_or s 1 0 ∷ get_or s 2 0 ∷ get_or s 3 0 ∷ [] ≡ s
-spread s e = loaded s 0 (omega arith) ∙ take_all 4 s (omega arith)
-
--- `store`: four words stored one by one
-pub stored : (ws : List ℕ) (at : ℕ) (s : List ℕ) → length s ≡ 4
-    → set (set (set (set ws at (get_or s 0 0)) (at + 1) (get_or s 1 0)) (at + 2) (get_or s 2 0)) (at + 3) (get_or s 3 0) ≡ sets ws at s
-stored ws at s e = rw (add-one, add-two, add-three) (ap (sets ws at) (spread s e))
-
--- `equal` where a word differs
-pub unequal : (i : ℕ) (a b : List ℕ) → (get_or a i 0 ≡ get_or b i 0 → ⊥) → (false ≡ true → a ≡ b) × (a ≡ b → false ≡ true)
-unequal i a b n = ((λ e. absurd (false≢true e)), (λ e. absurd (n (ap (λ (l : List ℕ). get_or l i 0) e))))
-
--- `equal` where the first three words agree: the last decides
-pub compared : (a b : List ℕ) → length a ≡ 4 → length b ≡ 4
-    → get_or a 0 0 ≡ get_or b 0 0 → get_or a 1 0 ≡ get_or b 1 0 → get_or a 2 0 ≡ get_or b 2 0
-    → (eqb (get_or a 3 0) (get_or b 3 0) ≡ true → a ≡ b) × (a ≡ b → eqb (get_or a 3 0) (get_or b 3 0) ≡ true)
-compared a b four-a four-b e₀ e₁ e₂ = (last, (λ e. eq-eqb (get_or a 3 0) (get_or b 3 0) (ap (λ (l : List ℕ). get_or l 3 0) e)))
-  where
-    last : eqb (get_or a 3 0) (get_or b 3 0) ≡ true → a ≡ b
-    last t = cc (spread a four-a, spread b four-b, eqb-true (get_or a 3 0) (get_or b 3 0) t)
+  pub wordwise : (r : List ℕ) → length r ≡ 4 → ((i : ℕ) → i < 4 → get_or r i 0 ≡ op (get_or a i 0) (get_or b i 0)) → SetIs r (λ c. g (has a c) (has b c))
+  wordwise r e w = words-set (λ c. g (has a c) (has b c)) r e (λ i l. rw (w i l) (op-word i))

@@ -3,15 +3,13 @@
 // fixes the words; a set that stands inside a slice is named by the index of its first word.
 #![tactic(auto)]
 
-ghost use Rattle.std.specs.Prelude.{◌≡◌, true, ℕ, ◌+◌, ◌-◌, ◌≤◌, ◌<◌, min, max, eqb, length, get_or, take, drop};
+ghost use Rattle.std.specs.Prelude.{◌≡◌, true, ℕ, ◌+◌, ◌-◌, ◌≤◌, ◌<◌, min, max, eqb, length, get_or, take, drop, slice_index};
 ghost use Rattle.std.proofs.lemmas.List.Edits.{sets};
 ghost use Rattle.cellset.specs.Bits.{bit, has, is, within};
 ghost use Rattle.cellset.specs.Members.{members, bits_from};
 ghost use Rattle.cellset.specs.Sets.{SetIs};
 
-const ALL: u64 = 0xffff_ffff_ffff_ffff;
-
-#[derive(Clone, Copy)]
+#[derive(Clone, Copy, PartialEq, Eq)]
 pub struct CellSet {
     pub words: [u64; 4],
 }
@@ -21,12 +19,12 @@ fn low_part(n: u64, first: u64) -> u64
     ensures { (k : ℕ) → k < 64 → bit result k ≡ within 0 n (first + k) }
 {
     if n <= first {
-        return 0;
+        0
+    } else if n - first >= 64 {
+        u64::MAX
+    } else {
+        (1 << (n - first)) - 1
     }
-    if n - first >= 64 {
-        return ALL;
-    }
-    (1 << (n - first)) - 1
 }
 
 // The cells from lo to hi - 1 in the word whose first cell is `first`.
@@ -72,52 +70,44 @@ pub fn single(a: u8) -> CellSet
     range(a as u64, a as u64 + 1)
 }
 
-pub fn union(a: CellSet, b: CellSet) -> CellSet
-    ensures { SetIs result.words (λ c. max (has a.words c) (has b.words c)) }
+// An operation at each of the four words.
+fn zip_words<F: Fn(u64, u64) -> u64>(a: CellSet, b: CellSet, f: F) -> CellSet
+    requires { F.IsAlwaysCallable f }
+    ensures { (length result.words ≡ 4) × ((i : ℕ) → i < 4 → F.post f (slice_index a.words i) (slice_index b.words i) (slice_index result.words i)) }
 {
     CellSet {
         words: [
-            a.words[0] | b.words[0],
-            a.words[1] | b.words[1],
-            a.words[2] | b.words[2],
-            a.words[3] | b.words[3],
+            f(a.words[0], b.words[0]),
+            f(a.words[1], b.words[1]),
+            f(a.words[2], b.words[2]),
+            f(a.words[3], b.words[3]),
         ],
     }
+}
+
+pub fn union(a: CellSet, b: CellSet) -> CellSet
+    ensures { SetIs result.words (λ c. max (has a.words c) (has b.words c)) }
+{
+    zip_words(a, b, |x, y| x | y)
 }
 
 pub fn intersection(a: CellSet, b: CellSet) -> CellSet
     ensures { SetIs result.words (λ c. min (has a.words c) (has b.words c)) }
 {
-    CellSet {
-        words: [
-            a.words[0] & b.words[0],
-            a.words[1] & b.words[1],
-            a.words[2] & b.words[2],
-            a.words[3] & b.words[3],
-        ],
-    }
+    zip_words(a, b, |x, y| x & y)
 }
 
 // The cells of a that are not in b.
 pub fn difference(a: CellSet, b: CellSet) -> CellSet
     ensures { SetIs result.words (λ c. has a.words c - has b.words c) }
 {
-    CellSet {
-        words: [
-            a.words[0] & !b.words[0],
-            a.words[1] & !b.words[1],
-            a.words[2] & !b.words[2],
-            a.words[3] & !b.words[3],
-        ],
-    }
+    zip_words(a, b, |x, y| x & !y)
 }
 
 pub fn contains(a: CellSet, c: u8) -> bool
     ensures { result ≡ eqb (has a.words c) 1 }
 {
-    let i = (c / 64) as usize;
-    let k = (c % 64) as u64;
-    (a.words[i] >> k) & 1 == 1
+    is_in(&a.words, c)
 }
 
 // The same of the words of a set that are lent, so that they are not copied for each cell asked.
@@ -132,16 +122,7 @@ pub fn is_in(words: &[u64; 4], c: u8) -> bool
 pub fn equal(a: CellSet, b: CellSet) -> bool
     ensures { (result ≡ true → a.words ≡ b.words) × (a.words ≡ b.words → result ≡ true) }
 {
-    if a.words[0] != b.words[0] {
-        return false;
-    }
-    if a.words[1] != b.words[1] {
-        return false;
-    }
-    if a.words[2] != b.words[2] {
-        return false;
-    }
-    a.words[3] == b.words[3]
+    a == b
 }
 
 // The set that stands in ws from index `at` on.
@@ -154,7 +135,8 @@ pub fn load(ws: &[u64], at: usize) -> CellSet
     }
 }
 
-// Puts a set into ws from index `at` on; the other words remain.
+// Puts a set into ws from index `at` on; the other words remain. By four writes, since the compiled code of
+// `copy_from_slice` was four instructions longer.
 pub fn store(ws: &mut [u64], at: usize, s: CellSet)
     requires { at + 4 ≤ length ws.old }
     ensures { ws.new ≡ sets ws.old at s.words }
@@ -169,26 +151,22 @@ pub fn store(ws: &mut [u64], at: usize, s: CellSet)
 pub fn count(a: CellSet) -> u32
     ensures { result ≡ length (members a.words) }
 {
-    u64::count_ones(a.words[0])
-        + u64::count_ones(a.words[1])
-        + u64::count_ones(a.words[2])
-        + u64::count_ones(a.words[3])
+    a.words.iter().map(|w| w.count_ones()).sum()
 }
 
-// The set bit of w that has k set bits below it; 64 where there is none.
+// The set bit of w that has k set bits below it; 64 where there is none. Here and at `nth` no Option, since each
+// caller asks for one that is there and would take it apart at once.
 fn nth_bit(w: u64, k: u32) -> u32
     ensures { result ≡ get_or (bits_from w 0 64) k 64 }
 {
     let mut rest = w;
-    let mut left = k;
-    while 0 < left {
+    for _ in 0..k {
         if rest == 0 {
             return 64;
         }
-        rest = rest & (rest - 1);
-        left -= 1;
+        rest &= rest - 1;
     }
-    u64::trailing_zeros(rest)
+    rest.trailing_zeros()
 }
 
 // The cell of a set that has k of its cells below it; 0 where there is none.
@@ -196,14 +174,12 @@ pub fn nth(a: CellSet, k: u32) -> u8
     ensures { result ≡ get_or (members a.words) k 0 }
 {
     let mut left = k;
-    let mut i: usize = 0;
-    while i < 4 {
-        let n = u64::count_ones(a.words[i]);
+    for (i, w) in a.words.iter().enumerate() {
+        let n = w.count_ones();
         if left < n {
-            return (64 * i as u32 + nth_bit(a.words[i], left)) as u8;
+            return (64 * i as u32 + nth_bit(*w, left)) as u8;
         }
         left -= n;
-        i += 1;
     }
     0
 }

@@ -8,7 +8,7 @@ use native.Mathlib.Omega.{arith}
 use lib.ListN.{length, get_or, set, take, drop, replicate, take-append-drop, length-append, length-replicate, length-set, get_or-replicate}
 use lib.Seq.{length-take-le, take-suc, take-take, take_at, drop_at, get_or-drop, set_at, append_snoc}
 use lib.Dec.{ltb}
-use borrow.Author.Tests.{ltb-true, ltb-false, lt-ltb, le-ltb}
+use borrow.Author.Tests.{ltb-true, ltb-false, le-ltb}
 use Rattle.cellset.proofs.Bits.{le-or-lt}
 use Rattle.program.proofs.Tests.{bool_cases}
 use Rattle.journal.specs.Parts.{Content}
@@ -62,20 +62,11 @@ begun-found {save} {chip} {s} b k c =
 -- ---- steps
 
 module _ (save : List ℕ) where
-  pub steps-none : (b : ℕ) (s : Progress) → b ≡ 0 → fold_steps save b s ≡ s
-  unfolding fold_steps
-  steps-none b s e = rw e refl
-
   -- where all stands
   pub steps_all : (b : ℕ) (l : List ℕ) (k : ℕ) → length save ≤ k → fold_steps save b (progress l k) ≡ progress l k
   unfolding fold_steps
   steps_all zero l k h = refl
   steps_all (suc b) l k h = rw (le-ltb k (length save) h) refl
-
-  -- one step
-  pub steps-one : (b : ℕ) (l : List ℕ) (k : ℕ) → k < length save → fold_steps save (suc b) (progress l k) ≡ fold_steps save b (progress (set l k (get_or save k 0)) (suc k))
-  unfolding fold_steps
-  steps-one b l k h = rw (lt-ltb k (length save) h) refl
 
   -- A CALL PASSES WHAT CALLS OF A SMALLER BUDGET LEAVE
   pub steps-join : (a b : ℕ) (s : Progress) → fold_steps save (a + b) s ≡ fold_steps save b (fold_steps save a s)

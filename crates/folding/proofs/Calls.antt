@@ -12,8 +12,8 @@ use Rattle.journal.specs.declared.Commit.{Commit}
 use Rattle.journal.specs.Format.{owner_of_plan}
 use Rattle.journal.proofs.Fixed.{apart}
 use Rattle.step.specs.State.{Env}
-use Rattle.folding.specs.declared.Folded.{Folded}
-use Rattle.folding.specs.declared.Folded.TheVariants.{Stored, Refused}
+use Rattle.folding.specs.Fold.{Folded}
+use Rattle.folding.specs.Fold.{Stored, Refused}
 use Rattle.folding.specs.Fold.{Holds, folded_bytes, refusal_of, Outcome, outcome, Progress, progress, fold_steps, answered, Puts, Folds, answer_of}
 use Rattle.folding.proofs.Beginning.{Advanced, advance}
 use Rattle.folding.proofs.Contents.{holds-fixed, holds-whole, holds-own}

@@ -29,12 +29,6 @@ holds-taken (Holds.today t) = t
 holds-taken {p} {old} {owner} {end} {torn} {last} {values} (Holds.older d t) =
     subst (λ (own : Bool). Taken (byte_facts unowned p) old end torn last own values) (t.own_is ∙ own-none refl t.reading.sound) t
 
--- where it is not damaged as one of the plan's, the marks are the plan's
-pub holds-today : {p old : List ℕ} {owner end torn : ℕ} {last : Commit} {values : List ℕ} → Holds p old owner end torn last values → ¬ Damaged (byte_facts (owner_of_plan p) p) old
-    → Taken (byte_facts (owner_of_plan p) p) old end torn last true values
-holds-today (Holds.today t) n = t
-holds-today (Holds.older d t) n = absurd (n d)
-
 pub holds-whole : {p old : List ℕ} {owner end torn : ℕ} {last : Commit} {values : List ℕ} → Holds p old owner end torn last values → Damaged (byte_facts (owner_of_plan p) p) old
     → ¬ Damaged (byte_facts unowned p) old
 holds-whole (Holds.today t) d d' = apart d t

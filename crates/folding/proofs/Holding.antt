@@ -1,6 +1,6 @@
--- The cells whose value is not 0, as a set: what the loop over them keeps (`below-turn`), and that the bytes made of it are those of the folded save (`save-some`).
+-- The cells whose value is not 0, as a set: what the loop over them keeps (`held_below`), and that the bytes made of it are those of the folded save (`save-some`).
 -- Assumes nothing.
-use Prim.Native.Nat.{ℕ, zero, suc, ◌+◌, ◌≤◌, ◌<◌, max}
+use Prim.Native.Nat.{ℕ, zero, suc, ◌+◌, ◌≤◌}
 use mathlib.Core.Path.{◌≡◌, refl, sym, ◌∙◌, ap, subst}
 use mathlib.Core.Bool.{cond}
 use mathlib.Core.List.{List, ◌++◌}
@@ -8,11 +8,10 @@ use native.Mathlib.Omega.{arith}
 use lib.ListN.{length, get_or, take, drop}
 use lib.Seq.{sets, sets-eq, length-sets, take_at}
 use lib.Dec.{eqb, ltb}
-use borrow.Author.Tests.{eqb-true, eqb-false, eq-eqb, ne_eqb, lt-ltb, le-ltb, ltb-true, ltb-false}
-use Rattle.cellset.specs.Bits.{has, is}
+use borrow.Author.Tests.{eq-eqb, ne_eqb}
+use Rattle.cellset.specs.Bits.{has}
 use Rattle.cellset.specs.Sets.{SetIs}
 use Rattle.cellset.specs.Members.{members_from, members}
-use Rattle.cellset.proofs.Sets.{set-ext, set-union}
 use Rattle.program.proofs.Tests.{bool_cases}
 use Rattle.journal.specs.declared.Commit.{Commit}
 use Rattle.journal.specs.Format.{format_of, kind_of, Checkpoint, image, padded}
@@ -20,50 +19,12 @@ use Rattle.journal.specs.Writing.{records_of, checkpoint_of}
 use Rattle.journal.proofs.Paging.{fill_one}
 use Rattle.journal.proofs.Naming.{kind-most}
 use Rattle.journal.proofs.Written.{image-length, padded-length}
-use Rattle.folding.specs.Fold.{byte_chip, held_from, named_for, folded_save, folded_bytes, held_bit, cell_if_of}
-
--- ---- one cell
-
-pub if_none : {s : List ℕ} (c v : ℕ) → v ≡ 0 → SetIs s (λ x. 0) → SetIs s (cell_if_of c v)
-if_none c v h p = set-ext p (λ x l. rw (eq-eqb v 0 h) refl)
-
-pub if_some : {s : List ℕ} (c v : ℕ) → ¬ (v ≡ 0) → SetIs s (is c) → SetIs s (cell_if_of c v)
-if_some c v h p = set-ext p (λ x l. rw (ne_eqb v 0 h) refl)
+use Rattle.folding.specs.Fold.{byte_chip, held_from, named_for, folded_save, folded_bytes, held_bit}
 
 -- ---- the cells below c
 
 abbrev pub held_below : List ℕ → (c x : ℕ) → ℕ
 held_below xs c x = cond (ltb x c) (held_bit xs x) 0
-
-pub below_none : {s : List ℕ} (xs : List ℕ) → SetIs s (λ x. 0) → SetIs s (held_below xs 0)
-below_none xs p = set-ext p (λ x l. rw (le-ltb x 0 (omega arith)) refl)
-
--- with the cell c
-bit-turn : (xs : List ℕ) (c x : ℕ) → max (held_below xs c x) (cell_if_of c (get_or xs c 0) x) ≡ held_below xs (c + 1) x
-bit-turn xs c x =
-    bool_cases (ltb x c)
-    (λ t.
-    let l : x < c = ltb-true _ _ t in
-    rw (t, lt-ltb x (c + 1) (omega arith), ne_eqb c x (λ e. omega arith))
-    (bool_cases (eqb (get_or xs c 0) 0) (λ u. rw u (omega arith)) (λ u. rw u (omega arith))))
-    (λ t.
-    let l : c ≤ x = ltb-false _ _ t in
-    bool_cases (eqb c x)
-    (λ u.
-    let e : c ≡ x = eqb-true _ _ u in
-    rw (t, lt-ltb x (c + 1) (omega arith), u, ← e)
-    (bool_cases (eqb (get_or xs c 0) 0) (λ w. rw w (omega arith)) (λ w. rw w (omega arith))))
-    (λ u.
-    let n : ¬ (c ≡ x) = eqb-false _ _ u in
-    rw (t, le-ltb x (c + 1) (omega arith), u)
-    (bool_cases (eqb (get_or xs c 0) 0) (λ w. rw w (omega arith)) (λ w. rw w (omega arith)))))
-
-pub below-turn : {s t u : List ℕ} (xs : List ℕ) (c v : ℕ) → v ≡ get_or xs c 0 → SetIs s (held_below xs c) → SetIs t (cell_if_of c v)
-    → SetIs u (λ x. max (has s x) (has t x)) → SetIs u (held_below xs (c + 1))
-below-turn xs c v e p q r = set-ext (set-union p (set-ext q (λ x l. ap (λ (i : ℕ). cell_if_of c i x) e)) r) (λ x l. bit-turn xs c x)
-
-pub below_all : {s : List ℕ} (xs : List ℕ) (c : ℕ) → 256 ≤ c → SetIs s (held_below xs c) → SetIs s (held_bit xs)
-below_all xs c h p = set-ext p (λ x l. rw (lt-ltb x c (omega arith)) refl)
 
 -- ---- its members
 
@@ -98,11 +59,11 @@ size-most owner s xs last =
 
 -- what the buffer and the number of its bytes have to be
 abbrev pub SaveIn : (owner end : ℕ) (xs : List ℕ) → Commit → (size : ℕ) (bytes : List ℕ) → Type 0
-SaveIn owner end xs last size bytes = (take size bytes ≡ folded_bytes owner end xs last) × (size ≤ length bytes) × (length bytes ≡ 1584)
+SaveIn owner end xs last size bytes = (take size bytes ≡ folded_bytes owner end xs last) × (size ≤ length bytes)
 
-pub save-none : (owner end : ℕ) (xs bytes : List ℕ) (last : Commit) → end ≡ 0 → length bytes ≡ 1584 → SaveIn owner end xs last 0 bytes
+pub save-none : (owner end : ℕ) (xs bytes : List ℕ) (last : Commit) → end ≡ 0 → SaveIn owner end xs last 0 bytes
 unfolding folded_bytes
-save-none owner end xs bytes last e l = (rw (eq-eqb end 0 e) refl, omega arith, l)
+save-none owner end xs bytes last e = (rw (eq-eqb end 0 e) refl, omega arith)
 
 -- what the buffer and the number are where the kind of MARK is k
 abbrev Stored : (k owner : ℕ) → Checkpoint → (bytes after : List ℕ) → (size : ℕ) → Type 0
@@ -119,4 +80,4 @@ save-some owner end xs bytes after last {s} {k} {size} {c} n l h kind commit sto
     let m : length i ≤ 1554 = subst (λ (j : Checkpoint). length (padded (byte_chip owner) j) ≤ 1554) (held-save owner xs last h) (size-most owner s xs (named_for owner last)) in
     let k : length after ≡ 1584 = ap length q.1 ∙ length-sets bytes 0 i ∙ l in
     let w : after ≡ i ++ drop (0 + length i) bytes = q.1 ∙ sets-eq i bytes 0 (omega arith) in
-    (rw (ne_eqb end 0 n) (ap (take size) w ∙ take_at i (drop (0 + length i) bytes) size (sym q.0)), omega (arith, q.0), k)
+    (rw (ne_eqb end 0 n) (ap (take size) w ∙ take_at i (drop (0 + length i) bytes) size (sym q.0)), omega (arith, q.0))

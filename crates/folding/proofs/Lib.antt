@@ -11,3 +11,4 @@ mod Ruling
 mod Holding
 mod Storing
 mod Putting
+pub mod Least

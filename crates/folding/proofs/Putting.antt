@@ -1,61 +1,30 @@
--- From what the parts of folding answer to what a call leaves: `put-differs`, `put-long` and `put-stores` on the new chip, the refusals by their tests, and by scan's answer `folded`, `folded-older` and their refusals.
+-- From what the parts of folding answer to what a call leaves: the refusals by their tests, and by scan's answer `folded`, `folded-older` and their refusals.
 -- Assumes nothing.
 use Prim.Native.Nat.{ℕ, ◌+◌, ◌≤◌, ◌<◌}
-use mathlib.Core.Path.{◌≡◌, refl, sym, ◌∙◌, ap, subst}
+use mathlib.Core.Path.{◌≡◌, refl, sym, subst}
 use mathlib.Core.Bool.{Bool, true, false, not, cond, ◌&&◌, and-false}
 use mathlib.Core.List.{List}
 use native.Mathlib.Omega.{arith}
-use lib.ListN.{length, take}
-use lib.Seq.{length-take-le}
-use lib.Dec.{eqb}
+use lib.ListN.{length}
+use Rattle.std.proofs.Common.{Err}
 use borrow.Author.Tests.{lt-ltb, le-ltb, ne_eqb}
 use Rattle.instruction.specs.Bytes.{byte}
 use Rattle.program.specs.Grounds.{Checks}
-use Rattle.program.specs.declared.Checked.TheVariants as checked
+use Rattle.program.specs.Check as checked
 use Rattle.program.proofs.Tests.{clash}
 use Rattle.journal.specs.declared.Commit.{Commit}
-use Rattle.journal.specs.declared.Scanned.{Scanned}
-use Rattle.journal.specs.declared.Scanned.TheVariants.{BadLength, Damaged, Found}
+use Rattle.journal.specs.Scanned.{Scanned}
+use Rattle.journal.specs.Scanned.{BadLength, Damaged, Found, scanned_of}
+use Rattle.journal.specs.declared.Unreadable.{Unreadable}
+use Rattle.journal.specs.declared.Unreadable.TheVariants as unreadable
 use Rattle.journal.specs.Format.{unowned, owner_of_plan, chip_length}
 use Rattle.journal.specs.Reading.{Facts}
-use Rattle.journal.specs.Parts.{Decides}
 use Rattle.journal.specs.Answer.{facts_in, Scans}
 use Rattle.step.specs.State.{env_of}
 use Rattle.step.specs.Ready.{Legal}
 use Rattle.recovery.proofs.Recovering.{not-zero, table-facts, Answered}
-use Rattle.folding.specs.declared.Folded.TheVariants.{Stored, Refused}
-use Rattle.folding.specs.Fold.{byte_chip, byte_facts, Holds, folded_bytes, refusal_of, Outcome, outcome, progress, fold_steps, Begun, answered, Puts, Folds, FoldsOlder}
-
--- ---- on the new chip, where the save is the first `size` bytes of a buffer
-
-module _ (save bytes new : List ℕ) (size k b : ℕ) (is : take size bytes ≡ save) (l : size ≤ length bytes) (x : Bool) (d : Decides (Begun (take size bytes) k new) x) where
-  size_is : length save ≡ size
-  size_is = ap length (sym is) ∙ length-take-le size bytes l
-
-  pub put-differs : not x ≡ true → Puts save new k b (outcome (Refused 13) new)
-  put-differs h = subst (λ (s : List ℕ). Puts s new k b (outcome (Refused 13) new)) is (Puts.differs (not-begun x d h) refl)
-    where
-      not-begun : (x : Bool) → Decides (Begun (take size bytes) k new) x → not x ≡ true → ¬ Begun (take size bytes) k new
-      not-begun false d h = d
-      not-begun true d h = clash false h refl
-
-  module _ (h : not x ≡ false) where
-    stands : Begun save k new
-    stands = subst (λ (s : List ℕ). Begun s k new) is (begun x d h)
-      where
-        begun : (x : Bool) → Decides (Begun (take size bytes) k new) x → not x ≡ false → Begun (take size bytes) k new
-        begun true d h = d
-        begun false d h = clash true refl h
-
-    pub put-long : length new < size → Puts save new k b (outcome (Refused 14) new)
-    put-long z = Puts.long stands (omega (arith, size_is)) refl
-
-    pub put-stores : (exit : List ℕ) (after : ℕ) → size ≤ length new → progress exit after ≡ fold_steps (take size bytes) b (progress new k)
-        → Puts save new k b (outcome (Stored after (eqb after size)) exit)
-    put-stores exit after z s =
-        Puts.stores stands (omega (arith, size_is))
-        (ap (λ (n : ℕ). outcome (Stored after (eqb after n)) exit) (sym size_is)
-        ∙ ap (answered save) (s ∙ ap (λ (t : List ℕ). fold_steps t b (progress new k)) is))
+use Rattle.folding.specs.Fold.{Refused}
+use Rattle.folding.specs.Fold.{byte_chip, byte_facts, Holds, folded_bytes, refusal_of, Outcome, outcome, Puts, Folds, FoldsOlder}
 
 -- ---- the refusals
 
@@ -96,11 +65,16 @@ module _ (highest : ℕ) (table old : List ℕ) (answer : Scanned) (v : List ℕ
   read-older e = rw e at scans
 
   -- its length is one that a chip may have
-  pub older-length : chip_length 1 (length old) ≡ true → {r : Outcome} → answer ≡ BadLength → FoldsOlder (older_facts highest table) owner old new k b r
+  older-length : chip_length 1 (length old) ≡ true → {r : Outcome} → answer ≡ BadLength → FoldsOlder (older_facts highest table) owner old new k b r
   older-length l e = clash _ l (read-older e).0
 
-  pub older-damaged : {n : ℕ} → answer ≡ Damaged → n ≡ 12 → FoldsOlder (older_facts highest table) owner old new k b (outcome (Refused n) new)
+  older-damaged : {n : ℕ} → answer ≡ Damaged → n ≡ 12 → FoldsOlder (older_facts highest table) owner old new k b (outcome (Refused n) new)
   older-damaged e h = rw h (FoldsOlder.damaged (read-older e).1 refl)
+
+  -- so it is damaged where it is not read
+  pub older-refused : chip_length 1 (length old) ≡ true → (x : Unreadable) → answer ≡ scanned_of (Err x) → FoldsOlder (older_facts highest table) owner old new k b (outcome (Refused 12) new)
+  older-refused l unreadable.BadLength e = older-length l e
+  older-refused l unreadable.Damaged e = older-damaged e refl
 
   pub older-found : {end torn : ℕ} {last : Commit} {own : Bool} {r : Outcome} → answer ≡ Found end torn last own → Puts (folded_bytes owner end v last) new k b r
       → FoldsOlder (older_facts highest table) owner old new k b r

@@ -6,12 +6,12 @@ use mathlib.Core.Bool.{true}
 use mathlib.Core.List.{List}
 use lib.ListN.{length}
 use Rattle.journal.specs.declared.Commit.{Commit}
-use Rattle.journal.specs.declared.Scanned.TheVariants.{Found}
+use Rattle.journal.specs.Scanned.{Found}
 use Rattle.journal.specs.Format.{chip_length}
 use Rattle.journal.specs.Answer.{Taken}
 use Rattle.step.specs.State.{Env, Machine, machine_of}
 use Rattle.recovery.specs.Recover.{refusal_of, regs_of, marks_by_of, Outcome, outcome, recover_of, Recovers, refuses, reads}
-use Rattle.recovery.specs.declared.Recovered.TheVariants.{Restored}
+use Rattle.recovery.specs.Recover.{Restored}
 use Rattle.recovery.proofs.Laws.{one-outcome, restored-apart, restored-size}
 use Rattle.recovery.proofs.Recovering.{found-apart}
 use Rattle.folding.specs.Fold.{byte_facts}

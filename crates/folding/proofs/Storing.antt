@@ -1,155 +1,102 @@
--- The loops over the save and the new chip: what `same_start` has compared, the least byte that `is_blank` has met, what `begun` decides by both, and the steps that `store` has made.
+-- What `is_blank` and `begun` decide of a new chip, and the steps that `store` has made.
 -- Assumes nothing.
-use Prim.Native.Nat.{ℕ, suc, ◌+◌, ◌-◌, ◌≤◌, ◌<◌, min}
-use mathlib.Core.Path.{◌≡◌, refl, sym, ◌∙◌, ap, subst}
-use mathlib.Core.Bool.{Bool, true, false, not}
+use Prim.Native.Nat.{ℕ, zero, suc, ◌+◌, ◌-◌, ◌≤◌, ◌<◌, min}
+use mathlib.Core.Path.{◌≡◌, refl, sym, ◌∙◌, ap}
+use mathlib.Core.Bool.{Bool, true, false}
 use mathlib.Core.List.{List, [], ◌∷◌, ◌++◌}
-use mathlib.Core.Logic.{◌⊎◌, inl, inr, ⊎_elim}
 use native.Mathlib.Omega.{arith}
-use lib.ListN.{length, get_or, set, take, drop, replicate, length-drop, length-replicate, length-set, get_or-replicate}
-use lib.Seq.{length-take-le, take-suc, take-take, get_or-take, get_or-drop, ext_get_or}
-use lib.Dec.{eqb}
-use borrow.Author.Tests.{eqb-true, eqb-false}
-use Rattle.cellset.proofs.Bits.{le-or-lt}
-use Rattle.program.proofs.Tests.{clash}
+use lib.ListN.{length, get_or, set, take, drop, replicate, length-drop, length-replicate, get_or-replicate}
+use lib.Seq.{length-take-le, drop-cons, drop-drop, ext_get_or, sets, sets-eq}
+use lib.Dec.{eqb, ltb}
+use borrow.Author.Tests.{eqb-true, eqb-false, ltb-true, ltb-false}
+use borrow.Rule.Slice.PartMut.{put_mid}
+use Rattle.std.proofs.Common.{fold, add-zero, append_assoc}
+use Rattle.std.proofs.lemmas.List.{take_all}
+use Rattle.program.proofs.Tests.{bool_cases}
 use Rattle.journal.specs.Parts.{Decides}
 use Rattle.folding.specs.Fold.{BlankFrom, Begun, progress, fold_steps}
-use Rattle.folding.proofs.Beginning.{length-begun, begun-front, begun-rest, begun-by, steps-none, steps_all, steps-one}
-
--- ---- the front
-
--- the first i bytes are the same
-abbrev pub Alike : (save new : List ℕ) (i : ℕ) → Type 0
-Alike save new i = take i new ≡ take i save
-
-pub alike-turn : (save new : List ℕ) (i : ℕ) → i < length save → i < length new → Alike save new i → get_or new i 0 ≡ get_or save i 0 → Alike save new (i + 1)
-alike-turn save new i l m h e =
-    let z : i + 1 ≡ suc i = omega arith in
-    rw z (take-suc new i 0 m ∙ ap (λ (x : ℕ). take i new ++ (x ∷ [])) e ∙ ap (λ (x : List ℕ). x ++ (get_or save i 0 ∷ [])) h ∙ sym (take-suc save i 0 l))
-
-pub alike-not : (save new : List ℕ) (i n : ℕ) → i < n → ¬ (get_or new i 0 ≡ get_or save i 0) → ¬ Alike save new n
-alike-not save new i n l h e = h (sym (get_or-take n new i 0 l) ∙ ap (λ (x : List ℕ). get_or x i 0) e ∙ get_or-take n save i 0 l)
-
-pub alike-done : (save new : List ℕ) (i n : ℕ) → i ≤ n → n ≤ i → Alike save new i → Alike save new n
-alike-done save new i n l m h = let z : n ≡ i = omega arith in rw z h
+use Rattle.folding.proofs.Beginning.{length-begun, begun-front, begun-rest, begun-by}
 
 -- ---- the rest
 
--- a byte from `from` on is v
-pub record Met (l : List ℕ) (from v : ℕ) : Type 0 where
-  pub at : ℕ
-  pub after : from ≤ at
-  pub within : at < length l
-  pub is : get_or l at 0 ≡ v
+least-most : (a : ℕ) (l : List ℕ) → fold min a l ≤ a
+least-most a [] = omega arith
+least-most a (x ∷ xs) = let ih = least-most (min a x) xs in omega arith
 
--- the least byte from `from` to k, or FF
-pub record Least (l : List ℕ) (from k least : ℕ) : Type 0 where
-  pub onward : from ≤ k
-  pub most : least ≤ 0xFF
-  pub below : (j : ℕ) → from ≤ j → j < k → least ≤ get_or l j 0
-  pub met : (least ≡ 0xFF) ⊎ Met l from least
+least-below : (a : ℕ) (l : List ℕ) (j : ℕ) → j < length l → fold min a l ≤ get_or l j 0
+least-below a [] j h = absurd (omega arith)
+least-below a (x ∷ xs) zero h = let m = least-most (min a x) xs in omega arith
+least-below a (x ∷ xs) (suc j) h = least-below (min a x) xs j (omega arith)
 
-pub least_first : (l : List ℕ) (from : ℕ) → Least l from from 0xFF
-least_first l from = record { onward = omega arith; most = omega arith; below = λ j a b. absurd (omega arith); met = inl refl }
-
-pub least-turn : {l : List ℕ} {from k least : ℕ} (next : ℕ) → k < length l → next ≡ min least (get_or l k 0) → Least l from k least → Least l from (k + 1) next
-least-turn {l} {from} {k} {least} next n e h =
-    record {
-      onward = omega (arith, h.onward);
-      most = omega (arith, h.most);
-      below = λ j a b.
-          ⊎_elim
-          (λ (q : k ≤ j). let z : k ≡ j = omega arith in subst (λ (i : ℕ). next ≤ get_or l i 0) z (omega arith))
-          (λ (q : j < k). omega (arith, h.below j a q))
-          (le-or-lt k j);
-      met =
-          ⊎_elim
-          (λ (q : get_or l k 0 ≤ least). inr (record { at = k; after = h.onward; within = n; is = omega arith }))
-          (λ (q : least < get_or l k 0). let z : least ≡ next = omega arith in subst (λ (i : ℕ). (i ≡ 0xFF) ⊎ Met l from i) z h.met)
-          (le-or-lt (get_or l k 0) least);
-    }
-
--- it is FF where all are
-not-blank : {l : List ℕ} {from least : ℕ} → ¬ (least ≡ 0xFF) → (least ≡ 0xFF) ⊎ Met l from least → ¬ BlankFrom l from
-not-blank z (inl e) f = z e
-not-blank z (inr m) f = z (sym m.is ∙ f m.at m.after m.within)
+least-full : (a : ℕ) (l : List ℕ) → a ≡ 0xFF → BlankFrom l 0 → fold min a l ≡ 0xFF
+least-full a [] e f = e
+least-full a (x ∷ xs) e f =
+    let x_is : x ≡ 0xFF = f 0 (omega arith) (omega arith) in
+    least-full (min a x) xs (omega arith) (λ j a l. f (suc j) (omega arith) (omega arith))
 
 decide : {P : Type 0} (x : Bool) → (x ≡ true → P) → (x ≡ false → ¬ P) → Decides P x
 decide true f g = f refl
 decide false f g = g refl
 
-pub least-done : {l : List ℕ} {from k least : ℕ} → ((j : ℕ) → get_or l j 0 < 256) → length l ≤ k → Least l from k least → Decides (BlankFrom l from) (eqb least 0xFF)
-least-done {l} {from} {k} {least} bytes n h =
+-- the least byte is FF where all are
+pub least-blank : (l : List ℕ) (least : ℕ) → ((j : ℕ) → get_or l j 0 < 256) → least ≡ fold min 0xFF l → Decides (BlankFrom l 0) (eqb least 0xFF)
+least-blank l least bytes e =
     decide (eqb least 0xFF)
-    (λ t. let e : least ≡ 0xFF = eqb-true _ _ t in λ j a b. omega (arith, h.below j a (omega arith), bytes j))
-    (λ t. not-blank (eqb-false _ _ t) h.met)
+    (λ t. let ff : least ≡ 0xFF = eqb-true _ _ t in λ j a b. omega (arith, least-below 0xFF l j b, bytes j))
+    (λ t f. eqb-false _ _ t (e ∙ least-full 0xFF l refl f))
 
--- ---- the whole chip, where the save is the first `size` bytes of a buffer
+-- ---- the whole chip
 
-module _ (save new : List ℕ) (size k : ℕ) (h : size ≤ length save) where
-  abbrev Stands : Type 0
-  Stands = Begun (take size save) k new
-
+module _ (save new : List ℕ) (k : ℕ) where
   -- more bytes than the save has, or than the chip has
-  pub not-most : size < k → ¬ Stands
-  not-most l b = omega (arith, b.most, length-take-le size save h)
+  pub not-room : min (length save) (length new) < k → ¬ Begun save k new
+  not-room l b = omega (arith, b.most, length-begun b)
 
-  pub not-room : length new < k → ¬ Stands
-  not-room l b = omega (arith, length-begun b)
+  pub not-front : ¬ (take k new ≡ take k save) → ¬ Begun save k new
+  not-front h b = h (begun-front b)
 
-  module _ (l : k ≤ size) where
-    front_same : take k (take size save) ≡ take k save
-    front_same = take-take k size save l
+  -- the front and the rest decide it
+  pub begun-rests : k ≤ min (length save) (length new) → take k new ≡ take k save → (x : Bool) → Decides (BlankFrom (take (length new - k) (drop k new)) 0) x
+      → Decides (Begun save k new) x
+  begun-rests m d x e = decides x (rw whole at e)
+    where
+      whole : take (length new - k) (drop k new) ≡ drop k new
+      whole = take_all (length new - k) (drop k new) (omega (arith, length-drop k new))
 
-    -- another front
-    pub not-front : (x : Bool) → Decides (Alike save new k) x → not x ≡ true → ¬ Stands
-    not-front false d n b = d (begun-front b ∙ front_same)
-    not-front true d n b = clash false n refl
-
-    -- the front and the rest decide it
-    pub begun-rests : k ≤ length new → (x y : Bool) → Decides (Alike save new k) x → not x ≡ false → Decides (BlankFrom new k) y → Decides Stands y
-    begun-rests m false y d n e = clash true refl n
-    begun-rests m true true d n e =
-        begun-by (take size save) new k (length new - k) (omega (arith, length-take-le size save h)) (d ∙ sym front_same)
-        (ext_get_or 0 (drop k new) (replicate (length new - k) 0xFF) (length-drop k new ∙ sym (length-replicate {A = ℕ} (length new - k) 0xFF))
-        (λ j l.
-        let i : j < length new - k = omega (arith, length-drop k new) in
-        get_or-drop k new j 0 ∙ e (k + j) (omega arith) (omega arith) ∙ sym (get_or-replicate (length new - k) j 0xFF 0 i)))
-    begun-rests m true false d n e = λ b. e (λ j a l.
-        let i : k + (j - k) ≡ j = omega arith in
-        sym (get_or-drop k new (j - k) 0 ∙ ap (λ (x : ℕ). get_or new x 0) i)
-        ∙ ap (λ (x : List ℕ). get_or x (j - k) 0) (begun-rest b)
-        ∙ get_or-replicate b.free (j - k) 0xFF 0 (omega (arith, length-begun b)))
+      decides : (x : Bool) → Decides (BlankFrom (drop k new) 0) x → Decides (Begun save k new) x
+      decides true e =
+          begun-by save new k (length new - k) (omega arith) d
+          (ext_get_or 0 (drop k new) (replicate (length new - k) 0xFF) (length-drop k new ∙ sym (length-replicate {A = ℕ} (length new - k) 0xFF))
+          (λ j l. e j (omega arith) l ∙ sym (get_or-replicate (length new - k) j 0xFF 0 (omega (arith, length-drop k new)))))
+      decides false e =
+          λ b. e (λ j a l. ap (λ (x : List ℕ). get_or x j 0) (begun-rest b) ∙ get_or-replicate b.free j 0xFF 0 (omega (arith, length-begun b, length-drop k new)))
 
 -- ---- the steps
 
--- the same steps from further on
-pub record Storing (save new₀ : List ℕ) (stored budget : ℕ) (new : List ℕ) (k b : ℕ) : Type 0 where
-  pub size : length new ≡ length new₀
-  pub steps : fold_steps save b (progress new k) ≡ fold_steps save budget (progress new₀ stored)
+-- they store what is left of the save, as far as the budget reaches
+steps_sets : (save : List ℕ) (b n k : ℕ) (l : List ℕ) → n ≡ min b (length save - k) → fold_steps save b (progress l k) ≡ progress (sets l k (take n (drop k save))) (k + n)
+unfolding fold_steps
+steps_sets save zero n k l e = let z : n ≡ 0 = omega arith in rw (z, add-zero) refl
+steps_sets save (suc b) n k l e =
+    bool_cases (ltb k (length save))
+    (λ t.
+    let lt : k < length save = ltb-true _ _ t in
+    let z : n ≡ suc (n - 1) = omega arith in
+    let s : k + suc (n - 1) ≡ suc k + (n - 1) = omega arith in
+    rw (t, z, drop-cons save k 0 lt, s) (steps_sets save b (n - 1) (suc k) (set l k (get_or save k 0)) (omega arith)))
+    (λ t.
+    let ge : length save ≤ k = ltb-false _ _ t in
+    let z : n ≡ 0 = omega arith in
+    rw (t, z, add-zero) refl)
 
-pub storing-first : (save new : List ℕ) (stored budget : ℕ) → Storing save new stored budget new stored budget
-storing-first save new stored budget = record { size = refl; steps = refl }
-
-module _ (save new₀ : List ℕ) (size stored budget : ℕ) (new : List ℕ) (k b : ℕ) (h : size ≤ length save) (s : Storing (take size save) new₀ stored budget new k b) where
-  pub storing-turn : k < size → 0 < b → Storing (take size save) new₀ stored budget (set new k (get_or save k 0)) (k + 1) (b - 1)
-  storing-turn l z =
-      let S = take size save in
-      let n = length-take-le size save h in
-      let x : b ≡ suc (b - 1) = omega arith in
-      let y : suc k ≡ k + 1 = omega arith in
-      let v : get_or S k 0 ≡ get_or save k 0 = get_or-take size save k 0 l in
-      record {
-        size = length-set new k (get_or save k 0) ∙ s.size;
-        steps =
-            sym (λ i. fold_steps S (b - 1) (progress (set new k (v i)) (y i)))
-            ∙ sym (steps-one S (b - 1) new k (omega arith))
-            ∙ ap (λ (i : ℕ). fold_steps S i (progress new k)) (sym x)
-            ∙ s.steps;
-      }
-
-  pub storing-all : size ≤ k → progress new k ≡ fold_steps (take size save) budget (progress new₀ stored)
-  storing-all l = sym (steps_all (take size save) b new k (omega (arith, length-take-le size save h))) ∙ s.steps
-
-  pub storing-none : b ≡ 0 → progress new k ≡ fold_steps (take size save) budget (progress new₀ stored)
-  storing-none z = sym (steps-none (take size save) b (progress new k) z) ∙ s.steps
+-- as one copy of a part
+pub steps_copied : (save new part : List ℕ) (k b n m : ℕ) → k ≤ length save → length save ≤ length new → n ≡ min b (length save - k) → m ≡ n → part ≡ take m (drop k save)
+    → progress (put_mid k m new part) (k + n) ≡ fold_steps save b (progress new k)
+steps_copied save new part k b n m l h e z p =
+    let long : length part ≡ n = ap length p ∙ length-take-le m (drop k save) (omega (arith, length-drop k save)) ∙ z in
+    let same : part ≡ take n (drop k save) = p ∙ ap (λ (i : ℕ). take i (drop k save)) z in
+    let rest : drop (k + length part) new ≡ drop m (drop k new) = rw (long, z) (sym (drop-drop n k new)) in
+    sym
+    (steps_sets save b n k new e
+    ∙ ap (λ (x : List ℕ). progress (sets new k x) (k + n)) (sym same)
+    ∙ ap (λ (x : List ℕ). progress x (k + n)) (sets-eq part new k (omega arith) ∙ append_assoc (take k new) part (drop (k + length part) new) ∙ ap (λ (x : List ℕ). take k new ++ (part ++ x)) rest))

@@ -20,8 +20,8 @@ use Rattle.step.specs.State.{Env, env_of, Machine}
 use Rattle.step.specs.Ready.{Legal}
 use Rattle.recovery.specs.Recover as recovery
 use Rattle.recovery.specs.Recover.{Recovers}
-use Rattle.recovery.specs.declared.Recovered.TheVariants.{Restored}
-use Rattle.folding.specs.declared.Folded.TheVariants.{Stored}
+use Rattle.recovery.specs.Recover.{Restored}
+use Rattle.folding.specs.Fold.{Stored}
 use Rattle.folding.specs.Fold.{byte_facts, Holds, folded_bytes, refusal_of, Outcome, outcome, progress, fold_steps, Begun, Puts, Folds}
 use Rattle.folding.specs.Lists.{Folding, SameState, Stores, Finished, Q6}
 use Rattle.folding.proofs.Beginning.{length-begun, begun-found, advance}

@@ -1,6 +1,6 @@
 -- Folding: document 02, Q-6, "Folding a full chip", and Q-8, "folding reads such a byte chip and writes `A3`". What a chip holds is crate `journal`'s; here is the save that is made of it, and one call.
 -- Assumes nothing.
-use Rattle.std.specs.Prelude.{ℕ, zero, suc, ◌+◌, ◌≤◌, ◌<◌, min, ◌≡◌, Bool, true, false, cond, ◌&&◌, List, [], ◌∷◌, ◌++◌, length, get_or, set, take, replicate, eqb, ltb}
+use Rattle.std.specs.Prelude.{ℕ, zero, suc, ◌+◌, ◌≤◌, ◌<◌, min, ◌≡◌, Bool, true, false, cond, ◌&&◌, List, [], ◌∷◌, ◌++◌, length, get_or, set, take, replicate, eqb, ltb, Result, Ok, Err}
 use Rattle.cellset.specs.Bits.{is}
 use Rattle.program.specs.Check.{Answer, check_of, number_of}
 use Rattle.program.specs.Grounds.{Allowed, CallGround}
@@ -10,8 +10,9 @@ use Rattle.journal.specs.Reading.{Facts, facts_of, Damaged}
 use Rattle.journal.specs.Writing.{records_of}
 use Rattle.journal.specs.Answer.{Taken}
 use Rattle.step.specs.State.{Env}
-use Rattle.folding.specs.declared.Folded.{Folded}
-use Rattle.folding.specs.declared.Folded.TheVariants.{Stored, Refused}
+use Rattle.program.specs.Refusal.{refusal_number}
+use Rattle.program.specs.declared.refusal.Refusal.{Refusal}
+use Rattle.folding.specs.declared.Standing.{Standing}
 
 -- ---- the save
 
@@ -53,6 +54,15 @@ unfoldable pub refusal_of : Env → (old new : ℕ) → ℕ
 refusal_of e old new =
     let n = number_of (check_of e.program) in
     cond (eqb n 0) (cond (ltb (length e.sets) 512) 9 (cond (chip_length 1 old && chip_length 1 new) 0 11)) n
+
+-- what folding gives: how many bytes of the save now stand on the new chip and whether these are all, or the number of a refusal
+pub data Folded : Type 0 where
+  Stored : (stored : ℕ) (finished : Bool) → Folded
+  Refused : ℕ → Folded
+
+abbrev pub folded_of : Result Standing Refusal → Folded
+folded_of (Ok s) = Stored s.stored s.finished
+folded_of (Err r) = Refused (refusal_number r)
 
 -- what a call leaves: the answer, and the new chip; the old one is only read
 pub record Outcome : Type 0 where

@@ -8,8 +8,8 @@ use Rattle.step.specs.State.{Env, env_of, Machine}
 use Rattle.step.specs.Ready.{Legal}
 use Rattle.recovery.specs.Recover as recovery
 use Rattle.recovery.specs.Recover.{Recovers}
-use Rattle.recovery.specs.declared.Recovered.TheVariants.{Restored}
-use Rattle.folding.specs.declared.Folded.TheVariants.{Stored}
+use Rattle.recovery.specs.Recover.{Restored}
+use Rattle.folding.specs.Fold.{Stored}
 use Rattle.folding.specs.Fold.{Holds, folded_bytes, Outcome, outcome, Begun, Folds, answer_of}
 
 -- what calls bring a new chip of n bytes to, which is blank at first

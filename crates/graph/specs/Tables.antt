@@ -11,7 +11,7 @@ use Rattle.instruction.specs.declared.Flow.{Flow}
 use Rattle.instruction.specs.declared.Flow.TheVariants.{Halt, Next, Goto, Branch}
 use Rattle.program.specs.Starts.{starts, among}
 use Rattle.program.specs.Check.{check_of}
-use Rattle.program.specs.declared.Checked.TheVariants.{Program}
+use Rattle.program.specs.Check.{Program}
 
 -- how many instructions there are, and the offset of instruction i
 abbrev pub count_of : List ℕ → ℕ

@@ -28,15 +28,13 @@ fn offsets(p: &[u8], at: &mut [u16]) -> usize
     i
 }
 
-// Puts each number below n at its place in a table.
-fn number(at: &[u16], n: usize, numbers: &mut [u16])
-    requires { (n ≤ 512) × (n ≤ length at.now) × ((i j : ℕ) → i < j → j < n → get_or at.now i 0 < get_or at.now j 0) × ((i : ℕ) → i < n → get_or at.now i 0 < length numbers.old) }
-    ensures { Numbered at.now n numbers.new }
+// Puts the number of each offset at its place in a table.
+fn number(at: &[u16], numbers: &mut [u16])
+    requires { (length at.now ≤ 512) × ((i j : ℕ) → i < j → j < length at.now → get_or at.now i 0 < get_or at.now j 0) × ((i : ℕ) → i < length at.now → get_or at.now i 0 < length numbers.old) }
+    ensures { Numbered at.now (length at.now) numbers.new }
 {
-    let mut i: u16 = 0;
-    while (i as usize) < n {
-        numbers[at[i as usize] as usize] = i;
-        i += 1;
+    for (i, o) in at.iter().enumerate() {
+        numbers[*o as usize] = i as u16;
     }
 }
 
@@ -44,41 +42,33 @@ fn number(at: &[u16], n: usize, numbers: &mut [u16])
 fn number_at(numbers: &[u16], t: u16) -> u16
     ensures { result ≡ get_or numbers.now t 0 }
 {
-    let at = t as usize;
-    if at < numbers.len() { numbers[at] } else { 0 }
+    numbers.get(t as usize).copied().unwrap_or(0)
 }
 
-fn left_of(flow: Flow, i: u16, numbers: &[u16]) -> u16
+// The left and the right way on from instruction i.
+fn ways_of(flow: Flow, i: u16, numbers: &[u16]) -> (u16, u16)
     requires { i < 512 }
-    ensures { result ≡ left_of flow i numbers.now }
+    ensures { (result.0 ≡ left_of flow i numbers.now) × (result.1 ≡ right_of_flow flow i numbers.now) }
 {
     match flow {
-        Flow::Halt => i,
-        Flow::Next => i + 1,
-        Flow::Goto(t) => number_at(numbers, t),
-        Flow::Branch(_) => i + 1,
+        Flow::Halt => (i, i),
+        Flow::Next => (i + 1, i + 1),
+        Flow::Goto(t) => {
+            let to = number_at(numbers, t);
+            (to, to)
+        }
+        Flow::Branch(t) => (i + 1, number_at(numbers, t)),
     }
 }
 
-fn right_of(flow: Flow, i: u16, numbers: &[u16]) -> u16
-    requires { i < 512 }
-    ensures { result ≡ right_of_flow flow i numbers.now }
-{
-    match flow {
-        Flow::Halt => i,
-        Flow::Next => i + 1,
-        Flow::Goto(t) => number_at(numbers, t),
-        Flow::Branch(t) => number_at(numbers, t),
-    }
-}
-
-// The ways on from instruction i.
+// Puts the ways on from instruction i into their tables.
 fn link(ins: Instruction, i: u16, numbers: &[u16], left: &mut [u16], right: &mut [u16])
     requires { (i < 512) × (512 ≤ length left.old) × (512 ≤ length right.old) }
     ensures { (left.new ≡ set left.old i (left_of (row_of ins).flow i numbers.now)) × (right.new ≡ set right.old i (right_of_flow (row_of ins).flow i numbers.now)) }
 {
-    left[i as usize] = left_of(flow_of(ins), i, numbers);
-    right[i as usize] = right_of(flow_of(ins), i, numbers);
+    let (to_left, to_right) = ways_of(flow_of(ins), i, numbers);
+    left[i as usize] = to_left;
+    right[i as usize] = to_right;
 }
 
 // The cells of instruction i.
@@ -94,22 +84,20 @@ fn mask(ins: Instruction, i: usize, reads: &mut [u64], writes: &mut [u64])
 fn enter(
     p: &[u8],
     at: &[u16],
-    n: usize,
     numbers: &[u16],
     left: &mut [u16],
     right: &mut [u16],
     reads: &mut [u64],
     writes: &mut [u64],
 )
-    requires { Passed p.now × (n ≡ count_of p.now) × Offsets p.now at.now × Numbered at.now n numbers.now × Space at.now left.old right.old reads.old writes.old }
+    requires { Passed p.now × (length at.now ≡ count_of p.now) × Offsets p.now at.now × Numbered at.now (length at.now) numbers.now
+        × (512 ≤ length left.old) × (512 ≤ length right.old) × (2048 ≤ length reads.old) × (2048 ≤ length writes.old) }
     ensures { Tables p.now at.now left.new right.new reads.new writes.new }
 {
-    let mut i: u16 = 0;
-    while (i as usize) < n {
-        let ins = instruction_at(p, at[i as usize] as usize);
-        link(ins, i, numbers, left, right);
-        mask(ins, i as usize, reads, writes);
-        i += 1;
+    for (i, o) in at.iter().enumerate() {
+        let ins = instruction_at(p, *o as usize);
+        link(ins, i as u16, numbers, left, right);
+        mask(ins, i, reads, writes);
     }
 }
 
@@ -126,8 +114,9 @@ pub fn tables(
     ensures { (result ≡ count_of p.now) × Tables p.now at.new left.new right.new reads.new writes.new }
 {
     let n = offsets(p, at);
+    let listed = &at[..n];
     let mut numbers = [0u16; 2048];
-    number(at, n, &mut numbers);
-    enter(p, at, n, &numbers, left, right, reads, writes);
+    number(listed, &mut numbers);
+    enter(p, listed, &numbers, left, right, reads, writes);
     n
 }

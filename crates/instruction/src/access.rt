@@ -42,19 +42,14 @@ pub fn may_ref(i: Instruction) -> CellSet
     ensures { SetIs result.words (may_ref_of i) }
 {
     match i {
-        Instruction::Copy { d: _, a } => one(a),
-        Instruction::Add { d: _, a, b } => two(a, b),
-        Instruction::Sub { d: _, a, b } => two(a, b),
-        Instruction::Div { d: _, a, b } => two(a, b),
+        Instruction::Copy { a, .. } => one(a),
+        Instruction::Add { a, b, .. } => two(a, b),
+        Instruction::Sub { a, b, .. } => two(a, b),
+        Instruction::Div { a, b, .. } => two(a, b),
         Instruction::Emit { a } => one(a),
-        Instruction::Less { a, b, t: _ } => two(a, b),
-        Instruction::Get { d: _, base, len, i } => one_and_cells_of(i, base, len),
-        Instruction::Put {
-            base: _,
-            len: _,
-            i,
-            a,
-        } => two(i, a),
+        Instruction::Less { a, b, .. } => two(a, b),
+        Instruction::Get { base, len, i, .. } => one_and_cells_of(i, base, len),
+        Instruction::Put { i, a, .. } => two(i, a),
         _ => nothing(),
     }
 }
@@ -84,12 +79,10 @@ fn sure_cell(base: u8, len: u8) -> Span
     ensures { SpanIs result.base result.len (access [] (sure_table (table_at base len))) }
 {
     if len == 1 {
-        return Span {
-            base: base,
-            len: len,
-        };
+        Span { base, len }
+    } else {
+        Span { base, len: 0 }
     }
-    Span { base: base, len: 0 }
 }
 
 // The cells that it must write, as a span: one of them or none.
@@ -97,24 +90,14 @@ fn sure_cells(i: Instruction) -> Span
     ensures { SpanIs result.base result.len (must_def_of i) }
 {
     match i {
-        Instruction::Set { d, v: _ } => one_cell(d),
-        Instruction::Copy { d, a: _ } => one_cell(d),
-        Instruction::Add { d, a: _, b: _ } => one_cell(d),
-        Instruction::Sub { d, a: _, b: _ } => one_cell(d),
-        Instruction::Div { d, a: _, b: _ } => one_cell(d),
+        Instruction::Set { d, .. } => one_cell(d),
+        Instruction::Copy { d, .. } => one_cell(d),
+        Instruction::Add { d, .. } => one_cell(d),
+        Instruction::Sub { d, .. } => one_cell(d),
+        Instruction::Div { d, .. } => one_cell(d),
         Instruction::Read { d } => one_cell(d),
-        Instruction::Get {
-            d,
-            base: _,
-            len: _,
-            i: _,
-        } => one_cell(d),
-        Instruction::Put {
-            base,
-            len,
-            i: _,
-            a: _,
-        } => sure_cell(base, len),
+        Instruction::Get { d, .. } => one_cell(d),
+        Instruction::Put { base, len, .. } => sure_cell(base, len),
         _ => no_cell(),
     }
 }
@@ -133,12 +116,7 @@ pub fn may_def(i: Instruction) -> CellSet
     ensures { SetIs result.words (may_def_of i) }
 {
     match i {
-        Instruction::Put {
-            base,
-            len,
-            i: _,
-            a: _,
-        } => cells_of(base, len),
+        Instruction::Put { base, len, .. } => cells_of(base, len),
         _ => must_def(i),
     }
 }
@@ -150,7 +128,7 @@ pub fn flow_of(i: Instruction) -> Flow
     match i {
         Instruction::End => Flow::Halt,
         Instruction::Jump { t } => Flow::Goto(t),
-        Instruction::Less { a: _, b: _, t } => Flow::Branch(t),
+        Instruction::Less { t, .. } => Flow::Branch(t),
         _ => Flow::Next,
     }
 }

@@ -19,23 +19,22 @@ pub fn byte_at(p: &[u8], at: usize) -> u8
 fn operand(p: &[u8], at: usize, k: usize) -> u8
     ensures { result ≡ byte p.now (at + k) }
 {
-    if p.len() <= at {
-        return 0;
+    if at < p.len() && k < p.len() - at {
+        p[at + k]
+    } else {
+        0
     }
-    if p.len() - at <= k {
-        return 0;
-    }
-    p[at + k]
 }
 
 // The 16-bit number of two bytes.
 fn half(low: u8, high: u8) -> u16
     ensures { result ≡ number_of (low ∷ high ∷ []) }
 {
-    low as u16 + 256 * high as u16
+    u16::from_le_bytes([low, high])
 }
 
 // The instruction at an offset.
+#[tactic(auto, unfolding(crate::specs::Bytes::instruction_at_of))]
 pub fn instruction_at(p: &[u8], at: usize) -> Instruction
     ensures { result ≡ instruction_at_of p.now at }
 {

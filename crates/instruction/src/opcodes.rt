@@ -1,5 +1,5 @@
 // The opcodes, and the one table of instruction lengths (document 01: "Command lengths stand in one
-// fixed table").
+// fixed table"). Numbers and no enum, since they are the bytes of a program's format and index the table.
 ghost use Rattle.std.specs.Prelude.{◌≡◌};
 ghost use Rattle.instruction.specs.Bytes.{length_of, Lengths};
 

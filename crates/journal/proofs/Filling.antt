@@ -1,7 +1,9 @@
 -- Bytes that are stored one after the other in a buffer: a record, a commit, and the whole checkpoint as `image_into` fills it in, cell by cell.
 -- Assumes nothing.
-use Rattle.std.proofs.Common.{◌≡◌, ℕ, zero, suc, ◌+◌, ◌-◌, ◌*◌, ◌<◌, ◌≤◌, Bool, true, false, cond, eqb, List, [], ◌∷◌, ◌++◌, length, get_or, set, replicate, sym, refl, ap, ◌∙◌, append_assoc, add-zero, add-one, arith, length-append}
-use lib.Seq.{sets}
+use Rattle.std.proofs.Common.{◌≡◌, ℕ, zero, suc, ◌+◌, ◌-◌, ◌*◌, ◌<◌, ◌≤◌, Bool, true, false, cond, eqb, List, [], ◌∷◌, ◌++◌, length, get_or, take, drop, set, replicate, sym, refl, ap, ◌∙◌, append_assoc, add-zero, add-one, arith, length-append, drop-drop}
+use lib.Seq.{sets, sets-eq}
+use lib.ListN.{length-replicate}
+use borrow.Rule.Slice.PartMut.{mid_of, put_mid, mid_len}
 use Rattle.word.specs.Bytes.{bytes_of, store_of}
 use Rattle.word.proofs.Bytes.{length-bytes}
 use Rattle.cellset.specs.Bits.{has}
@@ -57,28 +59,24 @@ pub ends-here : (l : List ℕ) (at owner : ℕ) {kind : ℕ} → kind ≡ 0 → 
 unfolding bytes_of
 ends-here l at owner e = rw e
 
-pub ends-owned : (l : List ℕ) (at next owner : ℕ) {kind : ℕ} {t : List ℕ} → ¬ (kind ≡ 0) → kind ≤ 1 → next ≡ at + 4 → t ≡ store_of 4 l at owner
+pub ends-owned : (l : List ℕ) (at next owner : ℕ) {kind : ℕ} {t : List ℕ} → kind ≡ 1 → next ≡ at + 4 → t ≡ store_of 4 l at owner
     → set t next 0x5A ≡ sets l at (bytes_of (4 * kind) owner ++ (0x5A ∷ []))
-ends-owned l at next owner {kind} a b n e =
-    let z : kind ≡ 1 = omega arith in
+ends-owned l at next owner z n e =
     rw z (store_then 4 owner l at next (0x5A ∷ []) e n)
 
 -- ---- the filling
 
--- `fill_into`: what is still to be stored leaves what all of it leaves
-pub record Erasing (from to : ℕ) (before now : List ℕ) (k : ℕ) : Type 0 where
-  pub rest : sets now k (replicate (to - k) 0xFF) ≡ sets before from (replicate (to - from) 0xFF)
-
-pub erasing-first : (from to : ℕ) (l : List ℕ) → Erasing from to l l from
-erasing-first from to l = record { rest = refl }
-
-pub erasing-turn : {from to : ℕ} {before now : List ℕ} {k : ℕ} → Erasing from to before now k → k < to → Erasing from to before (set now k 0xFF) (k + 1)
-erasing-turn {to = to} {k = k} e h =
-    let n : to - k ≡ suc (to - (k + 1)) = omega arith in
-    record { rest = rw (add-one k) (rw (n, add-one k) at e.rest) }
-
-pub erasing-done : {from to : ℕ} {before now : List ℕ} {k : ℕ} → Erasing from to before now k → to ≤ k → now ≡ sets before from (replicate (to - from) 0xFF)
-erasing-done {to = to} {k = k} e h = let z : to - k ≡ 0 = omega arith in rw z at e.rest
+-- a part of the buffer that is filled with a byte
+pub part-filled : (l : List ℕ) (from to v : ℕ) {part : List ℕ} → from ≤ to → to ≤ length l → part ≡ replicate (length (mid_of from (to - from) l)) v
+    → put_mid from (to - from) l part ≡ sets l from (replicate (to - from) v)
+part-filled l from to v {part} h m e =
+    let n = to - from in
+    let r : part ≡ replicate n v = e ∙ ap (λ (k : ℕ). replicate k v) (mid_len from to l m) in
+    let k : length (replicate n v) ≡ n = length-replicate n v in
+    ap (λ (x : List ℕ). put_mid from n l x) r
+    ∙ ap (λ (x : List ℕ). take from l ++ (replicate n v ++ x)) (drop-drop n from l ∙ ap (λ (x : ℕ). drop (from + x) l) (sym k))
+    ∙ sym (append_assoc (take from l) (replicate n v) (drop (from + length (replicate n v)) l))
+    ∙ sym (sets-eq (replicate n v) l from (omega (arith, k, h, m)))
 
 -- ---- the checkpoint
 

@@ -8,12 +8,12 @@ use Rattle.cellset.proofs.Bits.{le-or-lt}
 use Rattle.instruction.specs.Bytes.{cells_of}
 use Rattle.program.specs.Grounds.{Allowed, granted, denied}
 use Rattle.program.proofs.Tests.{clash}
-use Rattle.program.specs.declared.places.Place.{Place}
+use Rattle.program.specs.Places.{Place}
 use Rattle.program.specs.Places.{is_exclude, exclude_number, entry_at, read_place, after_checkpoint, Places}
 use Rattle.program.proofs.PlaceLaws.{place_read}
 use Rattle.journal.specs.declared.Commit.{Commit}
-use Rattle.journal.specs.declared.Scanned.{Scanned}
-use Rattle.journal.specs.declared.Scanned.TheVariants as scanned
+use Rattle.journal.specs.Scanned.{Scanned}
+use Rattle.journal.specs.Scanned as scanned
 use Rattle.journal.specs.Format.{Format, Checkpoint, filled_of, chip_length, images}
 use Rattle.journal.specs.Reading.{Facts, facts_of, first, last_of, Torn, Damaged, own_all, saved_value}
 use Rattle.journal.specs.Answer.{facts_in, Taken, Blank, Scans, answer_of, Ground, size, damaged, Read, reads, ScanIs}

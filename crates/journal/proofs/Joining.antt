@@ -1,15 +1,14 @@
 -- What is found in a journal without its trailing FF bytes is found in the journal, whose length is whole pages: `walk` over what `content` keeps has the
 -- answer of `scan` (`joined`).
 -- Assumes nothing.
-use Rattle.std.proofs.Common.{◌≡◌, ℕ, ◌+◌, ◌-◌, ◌<◌, ◌≤◌, true, false, List, [], ◌∷◌, ◌++◌, length, take, replicate, sym, ap, ◌∙◌, subst, ⊎_elim, append_assoc, append-nil, arith, length-append, drop_of_length-le, length-take-le}
+use Rattle.std.proofs.Common.{◌≡◌, ℕ, ◌+◌, ◌-◌, ◌<◌, ◌≤◌, true, List, [], ◌∷◌, ◌++◌, length, take, replicate, sym, ap, ◌∙◌, ⊎_elim, append_assoc, append-nil, arith, length-append, drop_of_length-le, length-take-le}
 use lib.ListN.{length-replicate}
 use Rattle.cellset.proofs.Bits.{le-or-lt}
-use Rattle.journal.specs.declared.Contents.{Contents}
-use Rattle.journal.specs.declared.Scanned.{Scanned}
-use Rattle.journal.specs.declared.Scanned.TheVariants as scanned
+use Rattle.journal.specs.Scanned.{Scanned}
+use Rattle.journal.specs.Scanned as scanned
 use Rattle.journal.specs.Format.{Checkpoint, chip_length, images}
 use Rattle.journal.specs.Reading.{Facts, Reading}
-use Rattle.journal.specs.Answer.{Blank, Scans}
+use Rattle.journal.specs.Answer.{Scans}
 use Rattle.journal.specs.Parts.{Content, Stops, WalkIs}
 use Rattle.journal.proofs.Paging.{whole-next, chip-length}
 use Rattle.journal.proofs.Decoding.{images-whole}
@@ -93,8 +92,3 @@ joined F (scanned.Found end torn last own) values m c w = (
     values_are = w.values_are;
   },
 )
-
--- a journal of a length that no chip has is not read
-pub unread : (F : Facts) (chip : List ℕ) (r : Contents) → chip_length F.format.page (length chip) ≡ false → (r.answer ≡ scanned.BadLength) × Blank r.values
-    → Scans F chip r.answer r.values
-unread F chip r l h = subst (λ (a : Scanned). Scans F chip a r.values) (sym h.0) (l, h.1)

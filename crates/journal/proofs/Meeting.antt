@@ -1,7 +1,7 @@
 -- Bytes that meet, the same as far as both go: part by part, the shorter ones as the beginning of the longer ones, and those that stand at an offset of a
 -- list. Before that, tests that decide and what holds below a number.
 -- Assumes nothing.
-use Rattle.std.proofs.Common.{◌≡◌, ℕ, ◌+◌, ◌<◌, ◌≤◌, Bool, true, false, List, [], ◌∷◌, ◌++◌, length, get_or, drop, refl, ap, ◌∙◌, subst, ⊎_elim, add-one, arith, length-drop, drop_of_length-le, drop-cons, drop-drop}
+use Rattle.std.proofs.Common.{◌≡◌, ℕ, ◌+◌, ◌<◌, ◌≤◌, Bool, true, false, List, [], ◌∷◌, ◌++◌, length, get_or, drop, sym, refl, ap, ◌∙◌, subst, ⊎_elim, add-one, arith, length-drop, drop_of_length-le, drop-cons, drop-drop}
 use Rattle.cellset.proofs.Bits.{le-or-lt}
 use Rattle.program.proofs.Tests.{clash}
 use Rattle.journal.specs.Parts.{Decides, Meets}
@@ -24,6 +24,13 @@ decides-yes false e d = clash false e refl
 pub decides-no : {P : Type 0} (b : Bool) → b ≡ false → Decides P b → ¬ P
 decides-no true e d = clash true refl e
 decides-no false e d = d
+
+-- `p && q` decides both: v is q where p holds, and else p
+pub decides-both : (P Q : Type 0) {p q v : Bool} → Decides P p → p ≡ true → Decides Q q → v ≡ q → Decides (P × Q) v
+decides-both P Q {p} {q} {v} d t e x = decides-same v (λ y. (decides-yes p t d, y)) (λ r. r.1) (subst (Decides Q) (sym x) e)
+
+pub decides-first : (P Q : Type 0) {p v : Bool} → Decides P p → p ≡ false → v ≡ p → Decides (P × Q) v
+decides-first P Q {p} {v} d f x = subst (Decides (P × Q)) (sym (x ∙ f)) (λ r. decides-no p f d r.0)
 
 -- what holds below n and at n holds below n + 1
 pub below_next : {P : ℕ → Type 0} (n : ℕ) → ((k : ℕ) → k < n → P k) → P n → (k : ℕ) → k < n + 1 → P k

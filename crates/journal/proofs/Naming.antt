@@ -4,7 +4,9 @@
 use Rattle.std.proofs.Common.{◌≡◌, ℕ, zero, suc, ◌+◌, ◌*◌, ◌/◌, ◌%◌, ◌^◌, ◌<◌, ◌≤◌, eqb, List, [], ◌∷◌, ◌++◌, length, get_or, drop, sym, refl, ap, ◌∙◌, add-one, arith, drop_of_length-le, ne_eqb, eqb-true}
 use Rattle.word.specs.Bytes.{bytes_of}
 use Rattle.program.proofs.Tests.{bool_cases}
-use Rattle.journal.specs.Format.{sum_of, owner_of_plan, kind_of, format_for, fields_image, commit_image}
+use Rattle.journal.specs.declared.owners.Kind.{Kind}
+use Rattle.journal.specs.declared.owners.Kind.TheVariants.{A2, A3}
+use Rattle.journal.specs.Format.{kind_number, sum_of, owner_of_plan, kind_of, format_for, fields_image, commit_image}
 
 -- 0 or 1
 pub kind-most : (owner : ℕ) → kind_of owner ≤ 1
@@ -17,13 +19,17 @@ owner_fits owner h =
     bool_cases (eqb owner 0) (λ t. let z : owner ≡ 0 = eqb-true _ _ t in rw t (omega arith)) (λ t. rw t (omega arith))
 
 -- the two kinds
-pub kind-none : {owner : ℕ} → owner ≡ 0 → (0 ≡ kind_of owner) × (0 ≤ 1)
-unfolding kind_of
-kind-none e = (rw e, omega arith)
+pub kind-few : (k : Kind) → kind_number k ≤ 1
+kind-few A2 = omega arith
+kind-few A3 = omega arith
 
-pub kind-some : {owner : ℕ} → ¬ (owner ≡ 0) → (1 ≡ kind_of owner) × (1 ≤ 1)
+pub kind-none : {owner : ℕ} → owner ≡ 0 → 0 ≡ kind_of owner
 unfolding kind_of
-kind-some {owner} h = (rw (ne_eqb owner 0 h), omega arith)
+kind-none e = rw e
+
+pub kind-some : {owner : ℕ} → ¬ (owner ≡ 0) → 1 ≡ kind_of owner
+unfolding kind_of
+kind-some {owner} h = rw (ne_eqb owner 0 h)
 
 -- a plan of 1 to 65,535 bytes has an owner, and MARKs of kind 1
 pub owner-some : (p : List ℕ) → 0 < length p → length p < 65536 → ¬ (owner_of_plan p ≡ 0)

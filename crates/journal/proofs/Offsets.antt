@@ -1,11 +1,10 @@
 -- The offsets that a commit may name: whether there is one among low, low + step and so on, and whether the bytes at hand begin one.
 -- Assumes nothing.
-use Rattle.std.proofs.Common.{◌≡◌, ℕ, ◌+◌, ◌*◌, ◌/◌, ◌%◌, ◌<◌, ◌≤◌, Bool, true, false, ltb, List, length, get_or, drop, sym, refl, ap, ◌∙◌, ⊎_elim, mod-eq_of_lt, mul-le-mul_left, mul-suc, arith, le-ltb, ne_eqb}
+use Rattle.std.proofs.Common.{◌≡◌, ℕ, ◌+◌, ◌*◌, ◌/◌, ◌%◌, ◌<◌, ◌≤◌, Bool, true, false, List, length, get_or, drop, sym, ap, ◌∙◌, ⊎_elim, mod-eq_of_lt, mul-le-mul_left, mul-suc, arith, le-ltb, ne_eqb}
 use native.Mathlib.Nat.{mod-one, mod-add-div, add-mul-mod_self_left}
 use Rattle.word.specs.Bytes.{bytes_of, load_of}
 use Rattle.cellset.proofs.Bits.{le-or-lt}
 use Rattle.program.specs.Places.{entry_at, read_place}
-use Rattle.program.specs.declared.places.Place.{Place}
 use Rattle.program.proofs.Tests.{clash}
 use Rattle.journal.specs.Reading.{Facts}
 use Rattle.journal.specs.Format.{Format, format_of}
@@ -15,21 +14,6 @@ use Rattle.journal.proofs.Meeting.{decides, decides-same, below_next, past-meets
 use Rattle.journal.proofs.Numbers.{Small, number-loaded, loaded-number}
 
 -- ---- one offset
-
--- 0 is one as a last EXCLUDE
-pub offset-first : (F : Facts) (ex : Bool) (t : ℕ) → ex ≡ true → t ≡ 0 → true ≡ offset_in F ex t
-offset-first F true t h e = rw e
-offset-first F false t h e = clash false h refl
-
--- another is what the table says
-module _ (G : Format) (n : ℕ) (table : List ℕ) (t : ℕ) (q : Place) (e : q ≡ read_place (entry_at table t)) where
-  pub offset-exclude : (ex : Bool) → ex ≡ true → ¬ (t ≡ 0) → ltb 0 q.exclude ≡ offset_in (facts_in G n table) ex t
-  offset-exclude true h d = rw (e, ne_eqb t 0 d)
-  offset-exclude false h d = clash false h refl
-
-  pub offset-place : (ex : Bool) → ex ≡ false → q.after ≡ offset_in (facts_in G n table) ex t
-  offset-place true h = clash true refl h
-  offset-place false h = rw e
 
 -- past the table there is none
 offset-past : (G : Format) (n : ℕ) (table : List ℕ) (ex : Bool) (t : ℕ) → 2048 ≤ t → offset_in (facts_in G n table) ex t ≡ false

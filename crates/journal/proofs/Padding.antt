@@ -13,16 +13,6 @@ use Rattle.journal.proofs.Numbers.{byte-here}
 pub erased-first : (l : List ℕ) (from : ℕ) → Erased l from from
 erased-first l from = record { are = λ k a b. absurd (omega arith) }
 
-pub erased-turn : {l : List ℕ} {from to : ℕ} {x : ℕ} → Erased l from to → x ≡ byte_at l to → x ≡ 0xFF → Erased l from (to + 1)
-erased-turn {l} {from} {to} h e x = record {
-  are =
-      λ k a b.
-      ⊎_elim
-      (λ (t : to ≤ k). let same : k ≡ to = omega arith in ap (byte_at l) same ∙ sym e ∙ x)
-      (λ (t : k < to). h.are k a t)
-      (le-or-lt to k);
-}
-
 pub erased-not : (l : List ℕ) {from to at : ℕ} {x : ℕ} → x ≡ byte_at l at → ¬ (x ≡ 0xFF) → from ≤ at → at < to → ¬ Erased l from to
 erased-not l {at = at} e n a b h = n (e ∙ h.are at a b)
 

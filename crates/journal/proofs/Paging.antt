@@ -114,9 +114,6 @@ fill-behind page a n w =
 pub byte-whole : (page n : ℕ) → page ≡ 1 → true ≡ pages_in page n
 byte-whole page n e = rw (e, mod-one n)
 
-pub byte-pages : (page n : ℕ) → page ≡ 1 → n ≡ n / page
-byte-pages page n e = rw e (omega (arith, div-add-mod' n 1, mod-one n))
-
 pub no-pages : (page n : ℕ) → page ≡ 0 → false ≡ chip_length page n
 unfolding chip_length
 no-pages page n e = rw e

@@ -1,6 +1,9 @@
 -- The records that `records_end` passes (`Passing`, its loop's invariant), and the cells without a stamp that `free_cell` and `cell_begins` look for.
 -- Assumes nothing.
-use Rattle.std.proofs.Common.{◌≡◌, ℕ, ◌+◌, ◌*◌, ◌^◌, ◌<◌, ◌≤◌, Bool, true, false, cond, not, ◌||◌, eqb, List, [], ◌∷◌, ◌++◌, length, get_or, drop, set, sym, refl, ap, ◌∙◌, arith, length-append, length-set, drop_of_length-le, get_or-set_other, get_or-set_same, eq-eqb, ne_eqb, eqb-true}
+use Rattle.std.proofs.Common.{◌≡◌, ℕ, ◌+◌, ◌*◌, ◌^◌, ◌<◌, ◌≤◌, Bool, true, false, cond, not, ◌||◌, eqb, List, [], ◌∷◌, ◌++◌, length, get_or, take, drop, set, sym, refl, ap, ◌∙◌, arith, length-append, length-set, length-take-le, drop_of_length-le, get_or-set_other, get_or-set_same, eq-eqb, ne_eqb, eqb-true}
+use Rattle.std.specs.Bool.{MatchBool}
+use Rattle.std.specs.List.{HoldsAt, AllWithin}
+use Rattle.std.proofs.lemmas.List.{get_or-take}
 use mathlib.Core.Bool.{or-true, or-false, or_assoc}
 use borrow.Author.Tests.{eqb-false, not-true}
 use Rattle.word.specs.Bytes.{bytes_of, load_of}
@@ -8,7 +11,7 @@ use Rattle.word.proofs.Bytes.{load_lt}
 use Rattle.program.proofs.Tests.{bool_cases, or-none}
 use Rattle.journal.specs.Format.{Saved, record_image, records_image}
 use Rattle.journal.specs.Reading.{Absent, Once}
-use Rattle.journal.specs.Parts.{Decides, Meets, among, Stamped, UpTo, NoRecord, Passed, Free}
+use Rattle.journal.specs.Parts.{Decides, Meets, among, Stamped, UpTo, Free}
 use Rattle.journal.proofs.Images.{records-join, record-length}
 use Rattle.journal.proofs.Meeting.{decides, meets_at, first-meets, meets-first}
 use Rattle.journal.proofs.Numbers.{Small, load-meets}
@@ -127,29 +130,20 @@ passing-turn {n} {l} {at} {seen} {i} p s b h tag k fresh =
       up_to = λ c j. omega (arith, set_value seen x (at + 1) c small, either-most (eqb c x) (at + 1) (get_or seen c 0) (p.up_to c j));
     }
 
-pub passing-done : {n : ℕ} {l : List ℕ} {at : ℕ} {seen : List ℕ} {i : ℕ} → Passing n l at seen i → NoRecord n (at + 1) seen l i → Passed n l at seen i
-passing-done p h = record {
-  saved = p.saved;
-  once = p.once;
-  bytes = p.bytes;
-  end_is = p.end_is;
-  most = p.most;
-  size = p.size;
-  stamped = p.stamped;
-  up_to = p.up_to;
-  no_more = h;
-}
-
 -- ---- a cell without the stamp
 
-pub free-here : (n m : ℕ) (seen : List ℕ) (k : ℕ) → k < n → ¬ (get_or seen k 0 ≡ m) → Free n m seen []
-free-here n m seen k h d = record { cell = k; exists = h; fresh = ne_eqb (get_or seen k 0) m d; meets = Meets.cut }
-
--- the loop of `free_cell` found all that exist stamped
-pub none_free : (n m : ℕ) (seen : List ℕ) (k : ℕ) {l : List ℕ} → ((j : ℕ) → j < k → get_or seen j 0 ≡ m) → n ≤ k → ¬ Free n m seen l
-none_free n m seen k h s f =
-    let e = f.exists in
-    eqb-false (get_or seen f.cell 0) m f.fresh (h f.cell (omega arith))
+-- `free_cell` looks at the cells below n: one of them is without the stamp, or all have it
+pub free-any : (n m : ℕ) (seen : List ℕ) (r : Bool) → n ≤ length seen
+    → MatchBool r ((k : ℕ) × (k < length (take n seen)) × HoldsAt (λ x. ¬ (x ≡ m)) (take n seen) k) (AllWithin (λ x. x ≡ m) (take n seen) 0 (length (take n seen)))
+    → Decides (Free n m seen []) r
+free-any n m seen true h (k, b, d) =
+    let e = length-take-le n seen h in
+    let z : k < n = omega arith in
+    record { cell = k; exists = z; fresh = ne_eqb (get_or seen k 0) m (λ s. d 0 (get_or-take n seen k 0 z ∙ s)); meets = Meets.cut }
+free-any n m seen false h a = λ f.
+    let e = length-take-le n seen h in
+    let z = f.exists in
+    eqb-false (get_or seen f.cell 0) m f.fresh (sym (get_or-take n seen f.cell 0 z) ∙ a f.cell 0 (omega arith) (omega arith))
 
 -- past the end every such cell is begun
 pub free-past : (n m : ℕ) (seen l : List ℕ) (i : ℕ) (r : Bool) → length l ≤ i → Decides (Free n m seen []) r → Decides (Free n m seen (drop i l)) r

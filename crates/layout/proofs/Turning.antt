@@ -1,21 +1,23 @@
 -- One turn of the loops that load and of those that store, on plain lists, and the parts that `store_state` stores.
 -- Assumes nothing.
 use mathlib.Core.Path.{◌≡◌, refl, sym, ap, ◌∙◌}
-use mathlib.Core.List.{List, [], ◌∷◌, ◌++◌, map, append-nil}
-use Prim.Native.Nat.{ℕ, zero, suc, ◌+◌, ◌*◌, ◌<◌}
+use mathlib.Core.List.{List, [], ◌∷◌, ◌++◌, map, append_assoc, append-nil}
+use Prim.Native.Nat.{ℕ, zero, suc, ◌+◌, ◌*◌, ◌<◌, ◌≤◌}
+use Rattle.std.proofs.Common.{mod-eq_of_lt}
 use native.Mathlib.Numerals.{add-one}
 use native.Mathlib.Omega.{arith}
 use lib.IntN.{ℤ, pos}
-use lib.ListN.{length, get_or, set, take, drop_of_length-le, get_or-map}
-use lib.Seq.{sets, sets-eq, take-suc, take-suc-set, take_all, length-take-le}
+use lib.ListN.{length, get_or, set, take, drop, length-map, drop_of_length-le, get_or-map}
+use lib.Seq.{sets, sets-eq, take-suc, take-suc-set, take_all, length-take-le, drop-cons, drop-drop}
 use mir.Syntax.{w32}
 use mir.Val.{to_z, of_z, SFits}
 use mir.Facts.{to_z-of_z}
 use Rattle.word.specs.Word.{val, bits_of}
 use Rattle.word.specs.Bytes.{bytes_of, load_of, store_of}
+use Rattle.word.proofs.Bytes.{load_one}
 use Rattle.step.specs.declared.Regs.{Regs}
 use Rattle.layout.specs.Numbers.{numbers_from, bytes_of_all, signed_from, signed_bytes}
-use Rattle.layout.specs.Layout.{regs_in, regs_list, state_bytes}
+use Rattle.layout.specs.Layout.{regs_in, marks_in, regs_list, state_bytes}
 use Rattle.layout.proofs.Numbering.{numbers-split, all-length, all_append, signed_all}
 use Rattle.layout.proofs.Laws.{stores-join, signed-split, cells-end, marks-end, state-length}
 
@@ -91,16 +93,38 @@ stored-done w at b₀ vs k q l e = q ∙ ap (λ (us : List ℕ). sets b₀ at (b
 pub pattern-at : (vs : List ℤ) (k : ℕ) {n : ℕ} → n ≡ bits_of (to_z w32 (of_z w32 (get_or vs k (pos 0)))) → SFits w32 (get_or vs k (pos 0)) → n ≡ get_or (map bits_of vs) k 0
 pattern-at vs k e f = e ∙ ap bits_of (to_z-of_z f) ∙ sym (get_or-map bits_of vs k (pos 0))
 
--- the patterns of the first k
-patterns-take : (k : ℕ) (vs : List ℤ) → map bits_of (take k vs) ≡ take k (map bits_of vs)
-patterns-take zero vs = refl
-patterns-take (suc k) [] = refl
-patterns-take (suc k) (v ∷ vs) = ap (λ (r : List ℕ). bits_of v ∷ r) (patterns-take k vs)
+-- behind the last turn the signed numbers are stored
+pub signed-done : (at : ℕ) (b₀ : List ℕ) (vs : List ℤ) (k : ℕ) {b : List ℕ} → b ≡ sets b₀ at (bytes_of_all 4 (take k (map bits_of vs))) → k ≡ length vs
+    → b ≡ sets b₀ at (signed_bytes vs)
+signed-done at b₀ vs k q e = rw (signed_all vs) (stored-done 4 at b₀ (map bits_of vs) k q (length-map vs bits_of) e)
 
--- behind the last turn the first n signed numbers are stored
-pub signed-done : (at : ℕ) (b₀ : List ℕ) (vs : List ℤ) (k n : ℕ) {b : List ℕ} → b ≡ sets b₀ at (bytes_of_all 4 (take k (map bits_of vs))) → k ≡ n
-    → b ≡ sets b₀ at (signed_bytes (take n vs))
-signed-done at b₀ vs k n q e = rw (signed_all (take n vs), patterns-take n vs, ← e) q
+-- ---- bytes
+
+-- numbers of one byte are those bytes
+ones-loaded : (n : ℕ) (b : List ℕ) (at : ℕ) → at + n ≤ length b → take n (drop at b) ≡ numbers_from 1 n b at
+unfolding numbers_from
+ones-loaded zero b at h = refl
+ones-loaded (suc n) b at h =
+    let i : at < length b = omega arith in
+    rw (load_one b at, drop-cons b at 0, ← add-one at) (ap (λ (l : List ℕ). get_or b at 0 ∷ l) (ones-loaded n b (at + 1) (omega arith)))
+
+-- and the bytes of such numbers are the numbers
+ones-stored : (vs : List ℕ) → ((k : ℕ) → get_or vs k 0 < 256) → bytes_of_all 1 vs ≡ vs
+unfolding bytes_of_all bytes_of
+ones-stored [] h = refl
+ones-stored (v ∷ vs) h = rw (mod-eq_of_lt (h 0)) (ap (λ (l : List ℕ). v ∷ l) (ones-stored vs (λ k. h (suc k))))
+
+-- the marks are the 256 bytes behind the cells
+pub marks-loaded : (b : List ℕ) → 1280 ≤ length b → take 256 (drop 1024 b) ≡ marks_in b
+unfolding marks_in
+marks-loaded b h = ones-loaded 256 b 1024 h
+
+-- marks in the place of those bytes are stored there
+pub marks-stored : (b marks : List ℕ) → length marks ≡ 256 → 1280 ≤ length b → ((k : ℕ) → get_or marks k 0 < 256)
+    → take 1024 b ++ (marks ++ drop 256 (drop 1024 b)) ≡ sets b 1024 (bytes_of_all 1 marks)
+marks-stored b marks l room h =
+    rw (ones-stored marks h, sets-eq marks b 1024 (omega arith), l, drop-drop 256 1024 b)
+    (sym (append_assoc (take 1024 b) marks (drop 1280 b)))
 
 -- ---- a state
 

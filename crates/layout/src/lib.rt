@@ -11,16 +11,15 @@ ghost use Rattle.layout.specs.Layout.{regs_in, cells_in, marks_in, regs_list, st
 use step::{Regs, State};
 use word::{from_bits, load32, load64, store32, to_bits};
 
-// The first n words of 64 bits.
+// The first n words of 64 bits. One function for these loads would have a width, a type and a count more and be no
+// shorter than the loops; the stores are alike.
 pub fn load_words(bytes: &[u8], n: usize) -> [u64; 512]
     requires { (n ≤ 512) × (8 * n ≤ length bytes.now) }
     ensures { (length result ≡ 512) × (take n result ≡ numbers_from 8 n bytes.now 0) }
 {
     let mut words = [0u64; 512];
-    let mut k: usize = 0;
-    while k < n {
-        words[k] = load64(bytes, 8 * k);
-        k += 1;
+    for (k, word) in words[..n].iter_mut().enumerate() {
+        *word = load64(bytes, 8 * k);
     }
     words
 }
@@ -30,10 +29,8 @@ pub fn load_signed(bytes: &[u8], at: usize, values: &mut [i32], n: usize)
     requires { (n ≤ length values.old) × (at + 4 * n ≤ length bytes.now) }
     ensures { take n values.new ≡ signed_from n bytes.now at }
 {
-    let mut k: usize = 0;
-    while k < n {
-        values[k] = from_bits(load32(bytes, at + 4 * k));
-        k += 1;
+    for (k, value) in values[..n].iter_mut().enumerate() {
+        *value = from_bits(load32(bytes, at + 4 * k));
     }
 }
 
@@ -42,10 +39,8 @@ pub fn store_signed(bytes: &mut [u8], at: usize, values: &[i32], n: usize)
     requires { (n ≤ length values.now) × (at + 4 * n ≤ length bytes.old) }
     ensures { bytes.new ≡ sets bytes.old at (signed_bytes (take n values.now)) }
 {
-    let mut k: usize = 0;
-    while k < n {
-        store32(bytes, at + 4 * k, to_bits(values[k]));
-        k += 1;
+    for (k, value) in values[..n].iter().enumerate() {
+        store32(bytes, at + 4 * k, to_bits(*value));
     }
 }
 
@@ -54,10 +49,8 @@ pub fn load_cells(bytes: &[u8]) -> [u32; 256]
     ensures { result ≡ cells_in bytes.now }
 {
     let mut cells = [0u32; 256];
-    let mut k: usize = 0;
-    while k < 256 {
-        cells[k] = load32(bytes, 4 * k);
-        k += 1;
+    for (k, cell) in cells.iter_mut().enumerate() {
+        *cell = load32(bytes, 4 * k);
     }
     cells
 }
@@ -67,11 +60,7 @@ pub fn load_marks(bytes: &[u8]) -> [u8; 256]
     ensures { result ≡ marks_in bytes.now }
 {
     let mut marks = [0u8; 256];
-    let mut k: usize = 0;
-    while k < 256 {
-        marks[k] = bytes[1024 + k];
-        k += 1;
-    }
+    marks.copy_from_slice(&bytes[1024..1280]);
     marks
 }
 
@@ -98,20 +87,19 @@ pub fn load_state(bytes: &[u8], page: u32, owner: u32) -> State
     requires { 1312 ≤ length bytes.now }
     ensures { (result.regs ≡ regs_in page owner bytes.now) × (result.cells ≡ cells_in bytes.now) × (result.marks ≡ marks_in bytes.now) }
 {
-    let regs = load_regs(bytes, page, owner);
-    let cells = load_cells(bytes);
-    let marks = load_marks(bytes);
-    State { regs, cells, marks }
+    State {
+        regs: load_regs(bytes, page, owner),
+        cells: load_cells(bytes),
+        marks: load_marks(bytes),
+    }
 }
 
 fn store_cells(bytes: &mut [u8], cells: &[u32])
     requires { (1024 ≤ length bytes.old) × (length cells.now ≡ 256) }
     ensures { bytes.new ≡ sets bytes.old 0 (bytes_of_all 4 cells.now) }
 {
-    let mut k: usize = 0;
-    while k < 256 {
-        store32(bytes, 4 * k, cells[k]);
-        k += 1;
+    for (k, cell) in cells.iter().enumerate() {
+        store32(bytes, 4 * k, *cell);
     }
 }
 
@@ -119,11 +107,7 @@ fn store_marks(bytes: &mut [u8], marks: &[u8])
     requires { (1280 ≤ length bytes.old) × (length marks.now ≡ 256) }
     ensures { bytes.new ≡ sets bytes.old 1024 (bytes_of_all 1 marks.now) }
 {
-    let mut k: usize = 0;
-    while k < 256 {
-        bytes[1024 + k] = marks[k];
-        k += 1;
-    }
+    bytes[1024..1280].copy_from_slice(marks);
 }
 
 fn store_regs(bytes: &mut [u8], r: Regs)
@@ -155,8 +139,5 @@ pub fn store_state(bytes: &mut [u8], state: State)
     requires { length bytes.old ≡ 1312 }
     ensures { bytes.new ≡ state_bytes state.regs state.cells state.marks }
 {
-    let regs = state.regs;
-    let cells = state.cells;
-    let marks = state.marks;
-    store_parts(bytes, regs, &cells[..], &marks[..]);
+    store_parts(bytes, state.regs, &state.cells, &state.marks);
 }

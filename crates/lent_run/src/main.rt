@@ -8,28 +8,27 @@
 ghost use Rattle.step.specs.State.{env_of};
 ghost use Rattle.lent_run.specs.PowerUp.{PowersUp};
 
-use instruction::byte_at;
 use journal::owners::owner_of;
 use machine::Passed;
-use recovery::Recovered;
-use run::Ended;
+use program::refusal::Refusal;
 use std::io;
 use step::{Regs, State};
+use word::from_bits;
 
 // What the calls of a power-up answer, and the state that each leaves.
 #[derive(Clone, Copy)]
 struct Powered {
-    recovered: Recovered,
+    recovered: Result<(), Refusal>,
     found: State,
-    first: Passed,
+    first: Result<Passed, Refusal>,
     stepped: State,
-    rest: Passed,
+    rest: Result<Passed, Refusal>,
     state: State,
 }
 
 // A power-up on a byte chip whose MARKs name the owner: recovery, a step and a run, all on the one state that lives
-// here. Here the step, at the plan's start or at a torn save, takes no reading and gives no output, so the run is lent the same readings and
-// outputs.
+// here. Here the step, at the plan's start or at a torn save, takes no reading and gives no output, so the run is lent
+// the same readings and outputs.
 fn lend(
     mut state: State,
     program: &[u8],
@@ -79,40 +78,29 @@ fn spoiled() -> State {
     }
 }
 
-fn number(rt: &impl Print, n: u64) -> io::Result<()> {
-    print!(rt; " {n}")
+fn answer(rt: &impl Print, recovered: Result<(), Refusal>) -> io::Result<()> {
+    let number = match recovered {
+        Ok(()) => 0,
+        Err(refusal) => u32::from(refusal),
+    };
+    print!(rt; " {number}")
 }
 
-// A signed number.
-fn value(rt: &impl Print, v: i32) -> io::Result<()> {
-    print!(rt; " {v}")
-}
-
-fn answer(rt: &impl Print, r: Recovered) -> io::Result<()> {
-    match r {
-        Recovered::Restored => number(rt, 0),
-        Recovered::Refused(n) => number(rt, n as u64),
-    }
-}
-
-fn ended(rt: &impl Print, e: Ended) -> io::Result<()> {
-    match e {
-        Ended::Refused(n) => {
-            rt.write_all(b" refused")?;
-            number(rt, n as u64)
+// A refused call has no numbers, so 0 stands for each.
+fn passed(rt: &impl Print, answer: Result<Passed, Refusal>) -> io::Result<()> {
+    match answer {
+        Ok(passed) => {
+            let ended = passed.ended;
+            print!(rt;
+                " {ended} {} {} {}",
+                passed.steps, passed.taken, passed.written
+            )
         }
-        Ended::Stopped(k) => number(rt, k as u64),
-        Ended::Spent => number(rt, 4),
-        Ended::NoReading => number(rt, 5),
-        Ended::BufferFull => number(rt, 6),
+        Err(refusal) => {
+            let number = u32::from(refusal);
+            print!(rt; " refused {number} 0 0 0")
+        }
     }
-}
-
-fn passed(rt: &impl Print, p: Passed) -> io::Result<()> {
-    ended(rt, p.ended)?;
-    number(rt, p.steps)?;
-    number(rt, p.taken as u64)?;
-    number(rt, p.written as u64)
 }
 
 // The registers in the order of their declaration, but for the page length and the owner, which are no part of the
@@ -120,20 +108,17 @@ fn passed(rt: &impl Print, p: Passed) -> io::Result<()> {
 fn left(rt: &impl Print, s: State) -> io::Result<()> {
     let r = s.regs;
     let cells = s.cells;
-    rt.write_all(b" registers")?;
-    number(rt, r.pc as u64)?;
-    number(rt, r.exclude as u64)?;
-    number(rt, r.readings as u64)?;
-    number(rt, r.outputs as u64)?;
-    number(rt, r.stop as u64)?;
-    number(rt, r.write as u64)?;
-    number(rt, r.erase as u64)?;
-    number(rt, r.saving as u64)?;
-    rt.write_all(b" cells")?;
-    value(rt, word::from_bits(cells[0]))?;
-    value(rt, word::from_bits(cells[1]))?;
-    value(rt, word::from_bits(cells[2]))?;
-    rt.write_all(b"\n")
+    print!(rt;
+        " registers {} {} {} {}",
+        r.pc, r.exclude, r.readings, r.outputs
+    )?;
+    print!(rt; " {} {} {} {}", r.stop, r.write, r.erase, r.saving)?;
+    print!(rt;
+        " cells {} {} {}\n",
+        from_bits(cells[0]),
+        from_bits(cells[1]),
+        from_bits(cells[2])
+    )
 }
 
 fn calls(rt: &impl Print, p: Powered) -> io::Result<()> {
@@ -150,35 +135,18 @@ fn calls(rt: &impl Print, p: Powered) -> io::Result<()> {
 
 fn outputs_given(rt: &impl Print, outputs: &[i32; 3]) -> io::Result<()> {
     rt.write_all(b"outputs")?;
-    value(rt, outputs[0])?;
-    value(rt, outputs[1])?;
-    value(rt, outputs[2])?;
+    for value in outputs {
+        print!(rt; " {value}")?;
+    }
     rt.write_all(b"\n")
 }
 
-// A byte of the chip in two hexadecimal digits, as document 01 writes a save.
-fn byte(rt: &impl Print, chip: &[u8], at: usize) -> io::Result<()> {
-    print!(rt; " {:02x}", byte_at(chip, at))
-}
-
-fn four(rt: &impl Print, chip: &[u8], at: u32) -> io::Result<()> {
-    let k = at as usize;
-    byte(rt, chip, k)?;
-    byte(rt, chip, k + 1)?;
-    byte(rt, chip, k + 2)?;
-    byte(rt, chip, k + 3)
-}
-
-// The 24 bytes that a save of the small plan takes.
-fn save(rt: &impl Print, chip: &[u8], at: u16) -> io::Result<()> {
-    let k = at as u32;
+// The bytes of a save in two hexadecimal digits each, as document 01 writes a save.
+fn save(rt: &impl Print, bytes: &[u8]) -> io::Result<()> {
     rt.write_all(b"chip")?;
-    four(rt, chip, k)?;
-    four(rt, chip, k + 4)?;
-    four(rt, chip, k + 8)?;
-    four(rt, chip, k + 12)?;
-    four(rt, chip, k + 16)?;
-    four(rt, chip, k + 20)?;
+    for byte in bytes {
+        print!(rt; " {byte:02x}")?;
+    }
     rt.write_all(b"\n")
 }
 
@@ -201,9 +169,10 @@ fn power_up(rt: &impl Print, readings: &[i32], chip: &mut [u8; 72], budget: u64)
     );
     calls(rt, p)?;
     outputs_given(rt, &outputs)?;
-    save(rt, chip, 0)?;
-    save(rt, chip, 24)?;
-    save(rt, chip, 48)
+    for bytes in chip.chunks(24) {
+        save(rt, bytes)?;
+    }
+    Ok(())
 }
 
 // The first budget ends where 33 bytes of saves are stored, 24 of the first and 9 of the second. The first save counts

@@ -52,11 +52,6 @@ pub counting-turn : {f : ℕ → ℕ} {n at end end' c : ℕ} {before after afte
 unfolding numbers
 counting-turn {c = c} q l w = record { room = q.room; most = omega arith; wrote = wrote_then (record { is = rw (add-one c) }) q.wrote w }
 
-pub counting-done : {f : ℕ → ℕ} {n at end c : ℕ} {before after : List ℕ} → Counting f n at before after end c → n ≤ c → Wrote (numbers f n) at before after end
-counting-done {n = n} {c = c} q h =
-    let e : c ≡ n = omega (arith, q.most) in
-    rw e at q.wrote
-
 -- `put_set`: the word, then the numbers
 pub set-parts : (word : List ℕ) (f : ℕ → ℕ) (n : ℕ) → Parts (set_of word f n) word (numbers f n)
 unfolding set_of

@@ -8,8 +8,8 @@ use Rattle.instruction.specs.Bytes.{length_of}
 use Rattle.program.specs.Starts.{starts_from, starts}
 use Rattle.program.specs.Places.{excludes_before}
 use Rattle.program.proofs.Examples.{small}
-use Rattle.analysis.specs.declared.Analysed.{Analysed}
-use Rattle.analysis.specs.declared.Analysed.TheVariants.{Sets, Refused}
+use Rattle.analysis.specs.Analyse.{Analysed}
+use Rattle.analysis.specs.Analyse.{Sets, Refused}
 use Rattle.listing.specs.Text.{bytes, digits, decimal}
 use Rattle.listing.specs.Listing.{number_if, numbers, set_of, line_from, line_at, lines_of, head_of, accepted_of, listing_of}
 

@@ -17,8 +17,8 @@ use Rattle.program.specs.Places.{is_start, is_exclude, exclude_number}
 use Rattle.program.proofs.Tests.{bool_cases}
 use Rattle.analysis.specs.Paths.{DE, RO}
 use Rattle.analysis.specs.Analyse.{analyse_of, ExcludeSets}
-use Rattle.analysis.specs.declared.Analysed.{Analysed}
-use Rattle.analysis.specs.declared.Analysed.TheVariants.{Sets, Refused}
+use Rattle.analysis.specs.Analyse.{Analysed}
+use Rattle.analysis.specs.Analyse.{Sets, Refused}
 use Rattle.analysis.proofs.Fixed.{de-apart, ro-apart}
 use Rattle.listing.specs.Listing.{in_neither, line_at, line_of, lines_of, accepted_of, listing_of, Lists}
 use Rattle.listing.proofs.Lines.{line_same}

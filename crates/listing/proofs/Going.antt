@@ -5,12 +5,14 @@ use mathlib.Core.List.{List, [], ◌∷◌, ◌++◌, append_assoc, append-nil}
 use mathlib.Core.Bool.{cond}
 use Prim.Native.Nat.{ℕ, ◌+◌, ◌*◌, ◌≤◌, ◌<◌}
 use native.Mathlib.Omega.{arith}
+use lib.ListN.{length}
 use lib.Dec.{eqb}
 use borrow.Author.Tests.{eq-eqb, ne_eqb}
-use Rattle.instruction.specs.Bytes.{byte, cells_of}
+use Rattle.instruction.specs.Bytes.{byte, cells_of, length_of}
 use Rattle.program.specs.Starts.{starts, first_refusal, excludes}
 use Rattle.program.specs.Places.{excludes_before, exclude_number}
-use Rattle.program.proofs.Walks.{sound-next}
+use Rattle.program.proofs.Left.{Left, left_here}
+use Rattle.program.proofs.Walks.{whole_by, sound-next}
 use Rattle.listing.specs.Text.{Wrote, Room}
 use Rattle.listing.specs.Listing.{line_at, lines_of}
 use Rattle.listing.proofs.Writing.{Parts, joined, wrote_none, wrote_then, room-first, room-then}
@@ -85,3 +87,8 @@ pub going_done : {p s : List ℕ} {at : ℕ} {before after : List ℕ} {end numb
     → Wrote (lines_of p s (starts p)) at before after end
 unfolding lines_of
 going_done q = rw (q.left.is ∙ append-nil q.text) q.wrote
+
+-- the instruction of a turn is whole
+pub whole_here : {p s before after : List ℕ} {at end number here n : ℕ} → Left p (Going p s at before after end number here) here → here < length p
+    → n ≡ length_of (byte p here) → (0 < n) × (here + n ≤ length p)
+whole_here l h e = left_here _ l h (λ f q. whole_by _ _ e (sound-next _ _ _ q.sound).0)

@@ -7,7 +7,7 @@ use native.Mathlib.Nat.{add-zero}
 use native.Mathlib.Numerals.{add-one}
 use native.Mathlib.Omega.{arith}
 use lib.ListN.{length, get_or, take, set, length-append}
-use lib.Seq.{sets, length-sets, set_out, length-take-le, take-suc, take-length}
+use lib.Seq.{sets, take-suc}
 use Rattle.listing.specs.Text.{Wrote, Room}
 
 -- to store two texts one after the other is to store both
@@ -42,27 +42,11 @@ room-first {text} {a} {b} p h = record { fits = omega (arith, ap length p.is, le
 pub room-then : {text a b : List ℕ} {at r : ℕ} {o₀ o₁ : List ℕ} → Parts text a b → Room at text → Wrote a at o₀ o₁ r → Room r b
 room-then {text} {a} {b} p h w = record { fits = omega (arith, ap length p.is, length-append a b, h.fits, w.end) }
 
--- the buffer keeps its length
-pub wrote-size : {a : List ℕ} {at r : ℕ} {o₀ o₁ : List ℕ} → Wrote a at o₀ o₁ r → length o₁ ≡ length o₀
-wrote-size {a} {at} {o₀ = o₀} w = rw w.stored (length-sets o₀ at a)
-
--- a byte past the buffer's end is left out
-pub byte_past : (out : List ℕ) (at b : ℕ) → length out ≤ at → Wrote (b ∷ []) at out out (at + 1)
-byte_past out at b h = record { stored = sym (set_out out at b h); end = refl }
-
 -- `put_word`: the first i bytes of the word are written
 pub record Spelling (word : List ℕ) (at : ℕ) (before after : List ℕ) (end i : ℕ) : Type 0 where
   pub room : Room at word
   pub most : i ≤ length word
   pub wrote : Wrote (take i word) at before after end
-
-pub spelling-first : {word : List ℕ} {at : ℕ} {out : List ℕ} → Room at word → Spelling word at out out at 0
-spelling-first h = record { room = h; most = omega arith; wrote = wrote_none }
-
--- the next byte has room
-pub spelling-room : {word : List ℕ} {at end i : ℕ} {before after : List ℕ} → Spelling word at before after end i → i < length word
-    → Room end (get_or word i 0 ∷ [])
-spelling-room {word} {i = i} s l = record { fits = omega (arith, s.room.fits, s.wrote.end, length-take-le i word s.most) }
 
 pub spelling-turn : {word : List ℕ} {at end end' i : ℕ} {before after after' : List ℕ} → Spelling word at before after end i → i < length word
     → Wrote (get_or word i 0 ∷ []) end after after' end' → Spelling word at before after' end' (i + 1)
@@ -71,9 +55,3 @@ spelling-turn {word} {i = i} s l w = record {
   most = omega arith;
   wrote = wrote_then (record { is = rw (add-one i) (take-suc word i 0 l) }) s.wrote w;
 }
-
-pub spelling-done : {word : List ℕ} {at end i : ℕ} {before after : List ℕ} → Spelling word at before after end i → length word ≤ i
-    → Wrote word at before after end
-spelling-done {word} {i = i} s h =
-    let e : i ≡ length word = omega (arith, s.most) in
-    rw (e, take-length word) at s.wrote

@@ -6,8 +6,8 @@ use Rattle.instruction.specs.Bytes.{byte, cells_of}
 use Rattle.program.specs.Starts.{starts}
 use Rattle.program.specs.Places.{exclude_number}
 use Rattle.analysis.specs.Analyse.{analyse_of, ExcludeSets}
-use Rattle.analysis.specs.declared.Analysed.{Analysed}
-use Rattle.analysis.specs.declared.Analysed.TheVariants.{Sets, Refused}
+use Rattle.analysis.specs.Analyse.{Analysed}
+use Rattle.analysis.specs.Analyse.{Sets, Refused}
 use Rattle.listing.specs.Text.{bytes, decimal, Wrote}
 
 -- a space and a cell's number where the cell is in the set: b is 1 where it is

@@ -1,42 +1,50 @@
 // Writing text into a buffer that may be too short for it, in the way of C's snprintf: bytes past the
-// buffer's end are left out, and the answer is the index after the text all the same.
-ghost use Rattle.std.specs.Prelude.{[], ◌∷◌};
+// buffer's end are left out, and `end` is the index after the text all the same.
+ghost use Rattle.std.specs.Prelude.{◌≡◌, [], ◌∷◌};
 ghost use Rattle.listing.specs.Text.{decimal, Wrote, Room};
 
-// One byte.
-pub fn put(out: &mut [u8], at: usize, byte: u8) -> usize
-    requires { Room at (byte ∷ []) }
-    ensures { Wrote (byte ∷ []) at out.old out.new result }
-{
-    if out.len() <= at {
-        return at + 1;
-    }
-    out[at] = byte;
-    at + 1
+// A text from the start of a lent buffer to `end`.
+#[derive(Drop)]
+pub struct Text<'a> {
+    pub out: &'a mut [u8],
+    pub end: usize,
 }
 
-// A word.
-pub fn put_word(out: &mut [u8], at: usize, word: &[u8]) -> usize
-    requires { Room at word.now }
-    ensures { Wrote word.now at out.old out.new result }
-{
-    let mut end = at;
-    let mut i = 0;
-    while i < word.len() {
-        end = put(out, end, word[i]);
-        i += 1;
+impl Text<'_> {
+    // One byte.
+    pub fn put(&mut self, byte: u8)
+        requires { Room self.old.end (byte ∷ []) }
+        ensures wrote { Wrote (byte ∷ []) self.old.end self.old.out.now self.new.out.now self.new.end }
+        ensures same_buffer { self.new.out.ghost_name ≡ self.old.out.ghost_name }
+    {
+        if self.end < self.out.len() {
+            self.out[self.end] = byte;
+        }
+        self.end += 1;
     }
-    end
-}
 
-// A number in decimal.
-pub fn put_decimal(out: &mut [u8], at: usize, n: u32) -> usize
-    requires { Room at (decimal n) }
-    ensures { Wrote (decimal n) at out.old out.new result }
-{
-    if n < 10 {
-        return put(out, at, 48 + n as u8);
+    // A word.
+    pub fn put_word(&mut self, word: &[u8])
+        requires { Room self.old.end word.now }
+        ensures wrote { Wrote word.now self.old.end self.old.out.now self.new.out.now self.new.end }
+        ensures same_buffer { self.new.out.ghost_name ≡ self.old.out.ghost_name }
+    {
+        for byte in word {
+            self.put(*byte);
+        }
     }
-    let end = put_decimal(out, at, n / 10);
-    put(out, end, 48 + (n % 10) as u8)
+
+    // A number in decimal.
+    pub fn put_decimal(&mut self, n: u32)
+        requires { Room self.old.end (decimal n) }
+        ensures wrote { Wrote (decimal n) self.old.end self.old.out.now self.new.out.now self.new.end }
+        ensures same_buffer { self.new.out.ghost_name ≡ self.old.out.ghost_name }
+    {
+        if n < 10 {
+            self.put(b'0' + n as u8);
+            return;
+        }
+        self.put_decimal(n / 10);
+        self.put(b'0' + (n % 10) as u8);
+    }
 }

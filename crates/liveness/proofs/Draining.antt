@@ -14,7 +14,7 @@ use lib.Seq.{get_or-set_other}
 use Rattle.cellset.specs.Bits.{bit, member}
 use Rattle.cellset.proofs.Bits.{bit-lt, le-or-lt}
 use Rattle.liveness.specs.Queue.{flag, Queue, Grown, On, Falls}
-use Rattle.liveness.specs.Graph.{Wired, Rooms, Ready, total, Turned, Live, read, to_left, to_right, Drained}
+use Rattle.liveness.specs.Graph.{Wired, Ready, Turned, Live, read, to_left, to_right, Drained}
 use Rattle.liveness.proofs.Waiting.{count_most, queue-pop}
 
 -- membership is 0 or 1
@@ -52,11 +52,6 @@ place {flags = flags} l q = omega (arith, q.room.size, q.room.most, count_most f
 pub node : {n : ℕ} {list : List ℕ} {flags : List Bool} {top : ℕ} → 0 < top → Queue n list flags top → get_or list (top - 1) 0 < n
 node {top = top} l q = q.below (top - 1) (omega arith)
 
--- what `turn` asks
-pub rooms : {left right reads writes d₀ : List ℕ} (d : List ℕ) {i : ℕ} → Wired left right → Rooms (length left) reads writes d₀ → length d ≡ length d₀ → i < length left
-    → (4 * i + 4 ≤ length d) × (4 * get_or left i 0 + 4 ≤ length d) × (4 * get_or right i 0 + 4 ≤ length d) × (4 * i + 4 ≤ length reads) × (4 * i + 4 ≤ length writes)
-rooms d {i} w r e l = omega (arith, r.for_reads, r.for_writes, r.for_dead, w.left_node i l, w.right_node i l)
-
 -- what `revisit` asks
 pub ready : {left right heads links list₀ list : List ℕ} {flags₀ flags : List Bool} {first top i : ℕ} → Ready left right heads links list₀ flags₀ first
     → Queue (length left) list flags top → i < length left
@@ -74,9 +69,6 @@ ready {left} {right} {list = list} {flags = flags} {top = top} {i = i} r q l =
 -- the measure falls: where a turn changes words by their sum, else by the list
 pub measure-more : {x y n : ℕ} {list : List ℕ} {flags : List Bool} {a : ℕ} (z b : ℕ) → x < y → Queue n list flags a → length flags ≡ z → x * (z + 1) + a < y * (z + 1) + b
 measure-more {flags = flags} z b l q e = omega (arith, mul-le-mul_right (z + 1) l, q.room.most, count_most flags)
-
-pub measure-same : {d d' : List ℕ} (z : ℕ) {top : ℕ} → 0 < top → d' ≡ d → total d' * (z + 1) + (top - 1) < total d * (z + 1) + top
-measure-same z l e = rw e (omega arith)
 
 -- what an equation yields is 0: the bit was, or the cell is read, or it is not written and a way on has 0
 zero-cases : (m a b w r : ℕ) → r < 2 → min m (min (max (min a b) w) (1 - r)) ≡ 0 → (m ≡ 0) ⊎ ((r ≡ 1) ⊎ ((w ≡ 0) × ((a ≡ 0) ⊎ (b ≡ 0))))

@@ -1,15 +1,15 @@
 -- Chains of numbers through a table of links: pushing a chain, and threading the numbers by their targets.
 -- Assumes nothing.
-use mathlib.Core.Path.{◌≡◌, refl, ◌∙◌}
+use mathlib.Core.Path.{◌≡◌}
 use mathlib.Core.Logic.{◌⊎◌, inl, inr}
 use mathlib.Core.List.{List}
 use mathlib.Core.Bool.{Bool, true}
 use Prim.Native.Nat.{ℕ, suc, ◌+◌, ◌-◌, ◌≤◌, ◌<◌}
 use native.Mathlib.Omega.{arith}
 use native.Mathlib.Decide.{ℕ_discrete}
-use lib.ListN.{length, get_or, set, length-set}
+use lib.ListN.{length, get_or, set}
 use lib.Seq.{get_or-set_same, get_or-set_other}
-use Rattle.liveness.specs.Queue.{flag, Queue, Pushed, Grown, On, here, there, Falls, Chains}
+use Rattle.liveness.specs.Queue.{flag, Queue, Pushed, Grown, On, here, there, Falls}
 use Rattle.liveness.proofs.Waiting.{Pushes, pushes-first, pushes-turn, pushed-flag, grown-push, queue-push, may-push}
 
 -- ---- what is on a chain
@@ -83,27 +83,14 @@ module _ {n : ℕ} {list : List ℕ} {flags : List Bool} {top i : ℕ} {list' : 
 -- ---- `thread`
 
 -- the numbers below k are on the chains of their targets
-pub record Threaded (targets heads₀ links₀ heads links : List ℕ) (k : ℕ) : Type 0 where
-  pub heads_size : length heads ≡ length heads₀
-  pub links_size : length links ≡ length links₀
-  pub most : k ≤ length targets
+pub record Threaded (targets heads links : List ℕ) (k : ℕ) : Type 0 where
   pub bounds : (t : ℕ) → get_or heads t 0 ≤ k
   pub falls : (j : ℕ) → j < k → get_or links j 0 ≤ j
   pub complete : (j : ℕ) → j < k → On links j (get_or heads (get_or targets j 0) 0)
 
-pub threaded-first : (targets heads links : List ℕ) → ((t : ℕ) → get_or heads t 0 ≡ 0) → Threaded targets heads links heads links 0
-threaded-first targets heads links z = record {
-  heads_size = refl;
-  links_size = refl;
-  most = omega arith;
-  bounds = λ t. omega (arith, z t);
-  falls = λ j l. absurd (omega arith);
-  complete = λ j l. absurd (omega arith);
-}
-
 -- a turn: number k, with target t, becomes the first of the chain of t
-module _ (targets heads₀ links₀ heads links : List ℕ) (k : ℕ) (q : Threaded targets heads₀ links₀ heads links k) (t : ℕ) (is : get_or targets k 0 ≡ t)
-    (l : k < length targets) (lt : t < length heads) (ll : k < length links) where
+module _ (targets heads links : List ℕ) (k : ℕ) (q : Threaded targets heads links k) (t : ℕ) (is : get_or targets k 0 ≡ t)
+    (lt : t < length heads) (ll : k < length links) where
   abbrev heads' : List ℕ
   heads' = set heads t (k + 1)
 
@@ -125,11 +112,8 @@ module _ (targets heads₀ links₀ heads links : List ℕ) (k : ℕ) (q : Threa
         | no ne ↦ rw (get_or-set_other heads t s (k + 1) 0 ne) o'
       ]
 
-  pub threaded-turn : Threaded targets heads₀ links₀ heads' links' (k + 1)
+  pub threaded-turn : Threaded targets heads' links' (k + 1)
   threaded-turn = record {
-    heads_size = length-set heads t (k + 1) ∙ q.heads_size;
-    links_size = length-set links k (get_or heads t 0) ∙ q.links_size;
-    most = omega arith;
     bounds = λ s.
         elim (ℕ_discrete s t) [
           | yes e ↦ rw (e, head-new) (omega arith)
@@ -143,11 +127,3 @@ module _ (targets heads₀ links₀ heads links : List ℕ) (k : ℕ) (q : Threa
     complete = λ j b.
         elim (ℕ_discrete j k) [ yes e ↦ rw (e, is) new | no ne ↦ kept j (get_or targets j 0) (q.complete j (omega arith)) ];
   }
-
-pub threaded-done : {targets heads₀ links₀ heads links : List ℕ} {k : ℕ} → Threaded targets heads₀ links₀ heads links k → length targets ≤ k
-    → Chains targets heads links
-threaded-done q l = record {
-  bounds = λ t. omega (arith, q.bounds t, q.most);
-  falls = λ j b. q.falls j (omega arith);
-  complete = λ j b. q.complete j (omega arith);
-}

@@ -198,32 +198,9 @@ module _ {left list₀ : List ℕ} {flags₀ : List Bool} {k : ℕ} {list : List
   way-done h = (w.pushes.queue, w.pushes.grown, elim w.passed [ inl s ↦ s | inr e ↦ rw e at (not-false (flag flags i) h) ])
 
 -- `push_all`: the numbers below k are pushed
-pub record All (n : ℕ) (list₀ : List ℕ) (flags₀ : List Bool) (list : List ℕ) (flags : List Bool) (top k : ℕ) : Type 0 where
+pub record All (n : ℕ) (list : List ℕ) (flags : List Bool) (top k : ℕ) : Type 0 where
   pub queue : Queue n list flags top
-  pub list_size : length list ≡ length list₀
-  pub flags_size : length flags ≡ length flags₀
   pub done : (j : ℕ) → j < k → flag flags j ≡ true
-
-pub all_first : {n : ℕ} {list : List ℕ} {flags : List Bool} {top k : ℕ} → Queue n list flags top → k ≤ 0 → All n list flags list flags top k
-all_first q z = record { queue = q; list_size = refl; flags_size = refl; done = λ j l. absurd (omega arith) }
-
-module _ {n : ℕ} {list₀ : List ℕ} {flags₀ : List Bool} {list : List ℕ} {flags : List Bool} {top k : ℕ} (a : All n list₀ flags₀ list flags top k) where
-  pub all-turn : {list' : List ℕ} {flags' : List Bool} {top' : ℕ} → length list' ≡ length list → length flags' ≡ length flags
-      → Queue n list' flags' top' × Grown flags flags' × (flag flags' k ≡ true) → All n list₀ flags₀ list' flags' top' (k + 1)
-  all-turn el ef p = record {
-    queue = p.0;
-    list_size = el ∙ a.list_size;
-    flags_size = ef ∙ a.flags_size;
-    done = λ j b. elim (ℕ_discrete j k) [ yes e ↦ rw e p.2 | no ne ↦ p.1 j (a.done j (omega arith)) ];
-  }
-
-  -- and one more way
-  pub all_more : {list' : List ℕ} {flags' : List Bool} {top' : ℕ} (x : ℕ) → length list' ≡ length list → length flags' ≡ length flags
-      → Queue n list' flags' top' × Grown flags flags' × (flag flags' x ≡ true) → All n list₀ flags₀ list' flags' top' k
-  all_more x el ef p = record { queue = p.0; list_size = el ∙ a.list_size; flags_size = ef ∙ a.flags_size; done = λ j b. p.1 j (a.done j b) }
-
-  pub all_done : n ≤ k → Queue n list flags top × ((j : ℕ) → j < n → flag flags j ≡ true)
-  all_done l = (a.queue, λ j b. a.done j (omega arith))
 
 -- none waits where no flag is set
 pub queue-none : {n : ℕ} {list : List ℕ} {flags : List Bool} → length list ≡ length flags → n ≤ length flags → ((k : ℕ) → flag flags k ≡ false) → Queue n list flags 0

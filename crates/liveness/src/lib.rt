@@ -49,10 +49,8 @@ fn fill(dead: &mut [u64], n: usize, cells: u64)
     ensures { Full n cells dead.old dead.new }
 {
     let all = cellset::below(cells);
-    let mut i = 0;
-    while i < n {
+    for i in 0..n {
         cellset::store(dead, 4 * i, all);
-        i += 1;
     }
 }
 

@@ -41,13 +41,10 @@ pub fn push_all(list: &mut [u16], flags: &mut [bool], left: &[u16], right: &[u16
     ensures { Queue (length left.now) list.new flags.new result
         × ((k : ℕ) → k < length left.now → flag flags.new k ≡ true) }
 {
-    let n = left.len() as u16;
     let mut top = 0;
-    let mut k = 0;
-    while k < n {
-        top = push_path(list, flags, top, left, k);
-        top = push_path(list, flags, top, left, right[k as usize]);
-        k += 1;
+    for (k, r) in right.iter().enumerate() {
+        top = push_path(list, flags, top, left, k as u16);
+        top = push_path(list, flags, top, left, *r);
     }
     top
 }
@@ -96,12 +93,9 @@ pub fn thread(targets: &[u16], heads: &mut [u16], links: &mut [u16])
         × ((k : ℕ) → k < length targets.now → get_or targets.now k 0 < length targets.now) × ((t : ℕ) → get_or heads.old t 0 ≡ 0) }
     ensures { Chains targets.now heads.new links.new }
 {
-    let n = targets.len() as u16;
-    let mut k: u16 = 0;
-    while k < n {
-        let t = targets[k as usize] as usize;
-        links[k as usize] = heads[t];
-        heads[t] = k + 1;
-        k += 1;
+    for (k, t) in targets.iter().enumerate() {
+        let head = &mut heads[*t as usize];
+        links[k] = *head;
+        *head = k as u16 + 1;
     }
 }

@@ -13,21 +13,10 @@ use lib.Dec.{ltb, leb}
 use lib.Pow.{pow_pos, pow_mono, pow-add, shr-shr, high}
 use lib.ListN.{get_or}
 use borrow.Author.Tests.{lt-ltb, le-ltb, le-leb, lt-leb}
-use mir.Val.{bool_byte}
 use Rattle.cellset.specs.Bits.{bit, within}
 use Rattle.cellset.specs.Sets.{SetIs}
 use Rattle.cellset.proofs.Bits.{bit-zero, bit-suc, le-or-lt}
 use Rattle.marks.specs.Marks.{mark_of, is_stored_of, to_store}
-use Rattle.marks.specs.declared.Mark.{Mark}
-
--- of all 256 cells the mark decides
-pub store_in : (ms : List ℕ) (c : ℕ) {m : Mark} {b : Bool} → c < 256 → m ≡ mark_of (get_or ms c 0) → b ≡ is_stored_of m
-    → (bool_byte b < 2) × (bool_byte b ≡ to_store 256 ms c)
-store_in ms c h m b = rw (b, m, lt-ltb c 256 h) (one (is_stored_of (mark_of (get_or ms c 0))))
-  where
-    one : (b : Bool) → (bool_byte b < 2) × (bool_byte b ≡ cond b 1 0)
-    one true = (omega arith, refl)
-    one false = (omega arith, refl)
 
 -- those of the 256 that lie below n are those of n
 pub store-cut : (n : ℕ) (ms : List ℕ) (c : ℕ) → c < 256 → min (to_store 256 ms c) (within 0 n c) ≡ to_store n ms c
@@ -99,39 +88,33 @@ module _ (f : ℕ → ℕ) (c m n : ℕ) {lo hi : ℕ} (l : Made f c m lo) (h : 
 
 -- ---- the loop of `stored_word`
 
--- w holds the bits from k to 63 of the word whose first cell is `first`
-pub record Filled (f : ℕ → ℕ) (first w k : ℕ) : Type 0 where
-  pub low : k ≤ 64
-  pub eights : k % 8 ≡ 0
-  pub made : Made f (first + k) (64 - k) w
+-- w holds the bits from eight number e to the last one of the word whose first cell is `first`
+pub record Filled (f : ℕ → ℕ) (first w e : ℕ) : Type 0 where
+  pub low : e ≤ 8
+  pub made : Made f (first + 8 * e) (64 - 8 * e) w
 
 -- no bit yet
-pub filled-first : (f : ℕ → ℕ) (first : ℕ) → Filled f first 0 64
-filled-first f first = record { low = omega arith; eights = refl; made = (omega arith, (λ k l. absurd (omega arith))) }
+pub filled-first : (f : ℕ → ℕ) (first : ℕ) → Filled f first 0 8
+filled-first f first = record { low = omega arith; made = (omega arith, (λ k l. absurd (omega arith))) }
 
-module _ {f : ℕ → ℕ} {first w k : ℕ} (q : Filled f first w k) where
-  -- where bits are left, eight are
-  pub filled-left : 0 < k → 8 ≤ k
-  filled-left h = omega (arith, q.eights)
-
-  module _ {e : ℕ} (h : 0 < k) (m : Made f (first + (k - 8)) 8 e) where
-    -- so eight bits more are made
-    pub filled-turn : Filled f first (e + w * 256) (k - 8)
+module _ {f : ℕ → ℕ} {first w e : ℕ} (q : Filled f first w e) where
+  module _ {v : ℕ} (h : 0 < e) (m : Made f (first + 8 * (e - 1)) 8 v) where
+    -- eight bits more are made
+    pub filled-turn : Filled f first (v + w * 256) (e - 1)
     filled-turn =
-        let up : 64 - (k - 8) ≡ 8 + (64 - k) = omega (arith, q.low, filled-left h) in
-        let at : first + k ≡ first + (k - 8) + 8 = omega (arith, filled-left h) in
+        let up : 64 - 8 * (e - 1) ≡ 8 + (64 - 8 * e) = omega (arith, q.low) in
+        let at : first + 8 * e ≡ first + 8 * (e - 1) + 8 = omega arith in
         record {
           low = omega (arith, q.low);
-          eights = omega (arith, q.eights, filled-left h);
-          made = rw up (made-join f (first + (k - 8)) 8 (64 - k) m (rw at at q.made));
+          made = rw up (made-join f (first + 8 * (e - 1)) 8 (64 - 8 * e) m (rw at at q.made));
         }
 
     -- and what is made is a word still
-    pub filled-room : e + w * 256 < 2 ^ 64
+    pub filled-room : v + w * 256 < 2 ^ 64
     filled-room = lt_of_lt_of_le filled-turn.made.0 (pow_mono {j = 64} (omega arith))
 
   -- at the end all 64 are there
-  pub filled-done : k ≤ 0 → (j : ℕ) → j < 64 → bit w j ≡ f (first + j)
+  pub filled-done : e ≤ 0 → (j : ℕ) → j < 64 → bit w j ≡ f (first + j)
   filled-done h j l = q.made.1 j (omega arith) ∙ ap f (omega arith)
 
 -- the bits of `word_below` are such a word's

@@ -1,53 +1,31 @@
--- One turn of the loops of `exclude`, of `recover` and of `keep`, on plain lists: the marks of one more cell are set.
+-- One turn of the loop of `update`, on plain lists: the mark of one more cell is set.
 -- Assumes nothing.
-use mathlib.Core.Path.{◌≡◌, refl, ap}
-use mathlib.Core.Bool.{Bool}
-use mathlib.Core.List.{List}
-use Prim.Native.Nat.{ℕ, ◌+◌}
-use native.Mathlib.Numerals.{add-one}
-use native.Mathlib.Omega.{arith}
-use lib.ListN.{get_or, set}
-use Rattle.marks.specs.Marks.{byte_of, mark_of, excluded, recovered, saved, map_below, in_set, excluded_marks, recovered_marks, saved_marks}
+use Rattle.std.proofs.Common.{◌≡◌, ℕ, zero, suc, ◌+◌, ◌<◌, ◌≤◌, List, ◌++◌, length, get_or, set, take, drop, refl, ap, arith, add-one, length-take, take-append-drop, get_or-take}
+use Rattle.std.proofs.lemmas.List.{set-append_left}
+use Rattle.marks.specs.Marks.{byte_of, mark_of, map_below}
 use Rattle.marks.specs.declared.Mark.{Mark}
-use Rattle.marks.proofs.Laws.{map-out}
+use Rattle.marks.proofs.Laws.{map-length, map-out}
+
+-- before the first turn no mark is set
+pub map-first : (f : ℕ → Mark → Mark) (ms : List ℕ) → ms ≡ map_below f 0 ms
+unfolding map_below
+map-first f ms = refl
 
 -- the mark of cell c is still the one at first, so that the byte stored is that of the definition
-map-turn : (f : ℕ → Mark → Mark) (c : ℕ) (ms : List ℕ)
-    → set (map_below f c ms) c (byte_of (f c (mark_of (get_or (map_below f c ms) c 0)))) ≡ map_below f (c + 1) ms
+pub map-turn : (f : ℕ → Mark → Mark) (c : ℕ) (ms ms' : List ℕ) {m m' : Mark} {b : ℕ}
+    → ms' ≡ map_below f c ms → m ≡ mark_of (get_or ms' c 0) → m' ≡ f c m → b ≡ byte_of m' → set ms' c b ≡ map_below f (c + 1) ms
 unfolding map_below
-map-turn f c ms = rw (add-one c) (ap (λ (b : ℕ). set (map_below f c ms) c (byte_of (f c (mark_of b)))) (map-out f c ms c (omega arith)))
+map-turn f c ms ms' now m m' b =
+    rw (b, m', m, now, add-one c) (ap (λ (b : ℕ). set (map_below f c ms) c (byte_of (f c (mark_of b)))) (map-out f c ms c (omega arith)))
 
--- before the first turn of `exclude` no mark is set
-pub excluded-first : (ws : List ℕ) (at : ℕ) (ms : List ℕ) → ms ≡ excluded_marks ws at 0 ms
-unfolding excluded_marks map_below
-excluded-first ws at ms = refl
-
--- a turn sets the mark of cell c to what the calls in it give
-pub excluded-turn : (ws : List ℕ) (at c : ℕ) (ms ms' : List ℕ) {de ro : Bool} {m m' : Mark} {b : ℕ}
-    → ms' ≡ excluded_marks ws at c ms → de ≡ in_set ws at c → ro ≡ in_set ws (at + 4) c
-    → m ≡ mark_of (get_or ms' c 0) → m' ≡ excluded m de ro → b ≡ byte_of m' → set ms' c b ≡ excluded_marks ws at (c + 1) ms
-unfolding excluded_marks
-excluded-turn ws at c ms ms' now de ro m m' b = rw (b, m', m, de, ro, now) (map-turn _ c ms)
-
--- the same of `recover`
-pub recovered-first : (ws : List ℕ) (at : ℕ) (ms : List ℕ) → ms ≡ recovered_marks ws at 0 ms
-unfolding recovered_marks map_below
-recovered-first ws at ms = refl
-
--- and its turn
-pub recovered-turn : (ws : List ℕ) (at c : ℕ) (ms ms' : List ℕ) {de ro : Bool} {m : Mark} {b : ℕ}
-    → ms' ≡ recovered_marks ws at c ms → de ≡ in_set ws at c → ro ≡ in_set ws (at + 4) c → m ≡ recovered de ro → b ≡ byte_of m
-    → set ms' c b ≡ recovered_marks ws at (c + 1) ms
-unfolding recovered_marks
-recovered-turn ws at c ms ms' now de ro m b = rw (b, m, de, ro, now) (map-turn _ c ms)
-
--- the same of `keep`
-pub saved-first : (ms : List ℕ) → ms ≡ saved_marks 0 ms
-unfolding saved_marks map_below
-saved-first ms = refl
-
--- and its turn
-pub saved-turn : (c : ℕ) (ms ms' : List ℕ) {m m' : Mark} {b : ℕ}
-    → ms' ≡ saved_marks c ms → m ≡ mark_of (get_or ms' c 0) → m' ≡ saved m → b ≡ byte_of m' → set ms' c b ≡ saved_marks (c + 1) ms
-unfolding saved_marks
-saved-turn c ms ms' now m m' b = rw (b, m', m, now) (map-turn _ c ms)
+-- what is done to the first n marks by themselves is done to them before the others
+pub map-front : (f : ℕ → Mark → Mark) (k n : ℕ) (ms : List ℕ) → k ≤ n → n ≤ length ms
+    → map_below f k (take n ms) ++ drop n ms ≡ map_below f k ms
+unfolding map_below
+map-front f zero n ms h l = take-append-drop n ms
+map-front f (suc k) n ms h l =
+    let s = map_below f k (take n ms) in
+    let b = byte_of (f k (mark_of (get_or ms k 0))) in
+    let lt : k < length s = rw (map-length f k (take n ms), length-take n ms) (omega arith) in
+    let e : set (s ++ drop n ms) k b ≡ set s k b ++ drop n ms = set-append_left s (drop n ms) k b lt in
+    rw (get_or-take n ms k 0 (omega arith), ← e, map-front f k n ms (omega arith) l) refl

@@ -5,11 +5,12 @@
 ghost use Rattle.std.specs.Prelude.{◌≡◌, cond, ℕ, ◌+◌, ◌^◌, ◌<◌, ◌≤◌, length, leb};
 ghost use Rattle.cellset.specs.Bits.{bit};
 ghost use Rattle.cellset.specs.Sets.{SetIs};
-ghost use Rattle.marks.specs.Marks.{byte_of, mark_of, excluded, recovered, saved, is_stored_of, in_set, excluded_marks, recovered_marks, saved_marks, to_store};
+ghost use Rattle.marks.specs.Marks.{byte_of, mark_of, excluded, recovered, saved, is_stored_of, in_set, map_below, excluded_marks, recovered_marks, saved_marks, to_store};
+ghost use Rattle.marks.specs.declared.Mark.{Mark};
 
 use cellset::CellSet;
 
-#[derive(Clone, Copy)]
+#[derive(Clone, Copy, Debug, PartialEq, Eq)]
 pub enum Mark {
     Include,
     Pending,
@@ -17,25 +18,29 @@ pub enum Mark {
     Dead,
 }
 
-fn to_byte(m: Mark) -> u8
-    ensures { result ≡ byte_of m }
-{
-    match m {
-        Mark::Include => 0,
-        Mark::Pending => 1,
-        Mark::Kept => 2,
-        Mark::Dead => 3,
+impl From<Mark> for u8 {
+    ghost from_gives = { λ m b. b ≡ byte_of m };
+
+    fn from(m: Mark) -> u8 {
+        match m {
+            Mark::Include => 0,
+            Mark::Pending => 1,
+            Mark::Kept => 2,
+            Mark::Dead => 3,
+        }
     }
 }
 
-fn from_byte(b: u8) -> Mark
-    ensures { result ≡ mark_of b }
-{
-    match b {
-        0 => Mark::Include,
-        1 => Mark::Pending,
-        2 => Mark::Kept,
-        _ => Mark::Dead,
+impl From<u8> for Mark {
+    ghost from_gives = { λ b m. m ≡ mark_of b };
+
+    fn from(b: u8) -> Mark {
+        match b {
+            0 => Mark::Include,
+            1 => Mark::Pending,
+            2 => Mark::Kept,
+            _ => Mark::Dead,
+        }
     }
 }
 
@@ -44,16 +49,14 @@ pub fn exclude_mark(m: Mark, de: bool, ro: bool) -> Mark
     ensures { result ≡ excluded m de ro }
 {
     if de {
-        return Mark::Dead;
-    }
-    if !ro {
-        return Mark::Include;
-    }
-    match m {
-        Mark::Include => Mark::Pending,
-        Mark::Pending => Mark::Pending,
-        Mark::Kept => Mark::Kept,
-        Mark::Dead => Mark::Pending,
+        Mark::Dead
+    } else if ro {
+        match m {
+            Mark::Include | Mark::Pending | Mark::Dead => Mark::Pending,
+            Mark::Kept => Mark::Kept,
+        }
+    } else {
+        Mark::Include
     }
 }
 
@@ -62,12 +65,12 @@ fn recovered_mark(de: bool, ro: bool) -> Mark
     ensures { result ≡ recovered de ro }
 {
     if de {
-        return Mark::Dead;
+        Mark::Dead
+    } else if ro {
+        Mark::Kept
+    } else {
+        Mark::Include
     }
-    if ro {
-        return Mark::Kept;
-    }
-    Mark::Include
 }
 
 // The mark after a save that holds its cell, if it holds it.
@@ -75,30 +78,35 @@ fn save_mark(m: Mark) -> Mark
     ensures { result ≡ saved m }
 {
     match m {
-        Mark::Include => Mark::Include,
         Mark::Pending => Mark::Kept,
-        Mark::Kept => Mark::Kept,
-        Mark::Dead => Mark::Dead,
+        _ => m,
     }
 }
 
 fn is_stored(m: Mark) -> bool
     ensures { result ≡ is_stored_of m }
 {
-    match m {
-        Mark::Include => true,
-        Mark::Pending => true,
-        Mark::Kept => false,
-        Mark::Dead => false,
-    }
+    matches!(m, Mark::Include | Mark::Pending)
 }
 
-// Whether cell c is in the set that stands in ws from index `at` on.
+// Whether cell c is in the set that stands in ws from index `at` on: `cellset::is_in` asks a whole set of four words,
+// which would be copied out of ws for each cell.
 fn in_set(ws: &[u64], at: usize, c: usize) -> bool
     requires { (c < 256) × (at + 4 ≤ length ws.now) }
     ensures { result ≡ in_set ws.now at c }
 {
-    (ws[at + c / 64] >> (c % 64) as u64) & 1 == 1
+    (ws[at + c / 64] >> (c % 64)) & 1 == 1
+}
+
+// The mark of each of the first n cells by f of the cell and its mark.
+fn update<F: Fn(usize, Mark) -> Mark>(marks: &mut [u8; 256], n: usize, f: F)
+    requires within { n ≤ 256 }
+    requires callable { (c : ℕ) (m : Mark) → c < n → F.pre f c m }
+    ensures { (g : ℕ → Mark → Mark) → ((c : ℕ) (m r : Mark) → c < n → F.post f c m r → r ≡ g c m) → marks.new ≡ map_below g n marks.old }
+{
+    for (c, mark) in marks[..n].iter_mut().enumerate() {
+        *mark = u8::from(f(c, Mark::from(*mark)));
+    }
 }
 
 // EXCLUDE: the marks of n cells by the DE and RO that stand in ws from index `at` on.
@@ -106,13 +114,11 @@ pub fn exclude(marks: &mut [u8; 256], ws: &[u64], at: usize, n: usize)
     requires { (n ≤ 256) × (at + 8 ≤ length ws.now) }
     ensures { marks.new ≡ excluded_marks ws.now at n marks.old }
 {
-    let mut c: usize = 0;
-    while c < n {
-        let de = in_set(ws, at, c);
-        let ro = in_set(ws, at + 4, c);
-        marks[c] = to_byte(exclude_mark(from_byte(marks[c]), de, ro));
-        c += 1;
-    }
+    update(
+        marks,
+        n,
+        |c, m| exclude_mark(m, in_set(ws, at, c), in_set(ws, at + 4, c)),
+    );
 }
 
 // Recovery: the marks of n cells by the DE and RO that stand in ws from index `at` on.
@@ -120,13 +126,11 @@ pub fn recover(marks: &mut [u8; 256], ws: &[u64], at: usize, n: usize)
     requires { (n ≤ 256) × (at + 8 ≤ length ws.now) }
     ensures { marks.new ≡ recovered_marks ws.now at n marks.old }
 {
-    let mut c: usize = 0;
-    while c < n {
-        let de = in_set(ws, at, c);
-        let ro = in_set(ws, at + 4, c);
-        marks[c] = to_byte(recovered_mark(de, ro));
-        c += 1;
-    }
+    update(
+        marks,
+        n,
+        |c, _| recovered_mark(in_set(ws, at, c), in_set(ws, at + 4, c)),
+    );
 }
 
 // The save is whole: Pending becomes Kept.
@@ -134,11 +138,7 @@ pub fn keep(marks: &mut [u8; 256], n: usize)
     requires { n ≤ 256 }
     ensures { marks.new ≡ saved_marks n marks.old }
 {
-    let mut c: usize = 0;
-    while c < n {
-        marks[c] = to_byte(save_mark(from_byte(marks[c])));
-        c += 1;
-    }
+    update(marks, n, |_, m| save_mark(m));
 }
 
 // 1 where a save of all 256 cells holds cell c.
@@ -146,10 +146,10 @@ fn stored_bit(marks: &[u8; 256], c: usize) -> u64
     requires { c < 256 }
     ensures { (result < 2) × (result ≡ to_store 256 marks.now c) }
 {
-    is_stored(from_byte(marks[c])) as u64
+    u64::from(is_stored(Mark::from(marks[c])))
 }
 
-// The bits of four cells from c on.
+// The bits of four cells from c on, written out for speed.
 fn stored_four(marks: &[u8; 256], c: usize) -> u64
     requires { c ≤ 252 }
     ensures { (result < 2 ^ 4) × ((k : ℕ) → k < 4 → bit result k ≡ to_store 256 marks.now (c + k)) }
@@ -160,7 +160,7 @@ fn stored_four(marks: &[u8; 256], c: usize) -> u64
         + stored_bit(marks, c + 3) * 8
 }
 
-// The bits of eight cells from c on, none of which waits for another.
+// The bits of eight cells from c on, no one of which waits for another: this is for speed.
 fn stored_eight(marks: &[u8; 256], c: usize) -> u64
     requires { c ≤ 248 }
     ensures { (result < 2 ^ 8) × ((k : ℕ) → k < 8 → bit result k ≡ to_store 256 marks.now (c + k)) }
@@ -173,11 +173,9 @@ fn stored_word(marks: &[u8; 256], first: usize) -> u64
     requires { first ≤ 192 }
     ensures { (k : ℕ) → k < 64 → bit result k ≡ to_store 256 marks.now (first + k) }
 {
-    let mut w: u64 = 0;
-    let mut k: usize = 64;
-    while 0 < k {
-        k -= 8;
-        w = stored_eight(marks, first + k) + w * 256;
+    let mut w = 0;
+    for eight in (0..8).rev() {
+        w = stored_eight(marks, first + 8 * eight) + w * 256;
     }
     w
 }
@@ -188,9 +186,10 @@ fn word_below(marks: &[u8; 256], first: usize, n: usize) -> u64
     ensures { (k : ℕ) → k < 64 → bit result k ≡ cond (leb n first) 0 (to_store 256 marks.now (first + k)) }
 {
     if n <= first {
-        return 0;
+        0
+    } else {
+        stored_word(marks, first)
     }
-    stored_word(marks, first)
 }
 
 // The cells that a save of n cells holds; n cuts the whole words, so that no mark is tested against it.

@@ -11,11 +11,11 @@ use Rattle.instruction.specs.Bytes.{byte}
 use Rattle.program.specs.Check.{Answer}
 use Rattle.program.specs.Grounds.{Allowed, granted, denied, Checks}
 use Rattle.program.specs.Places.{Places}
-use Rattle.program.specs.declared.Checked.TheVariants as checked
+use Rattle.program.specs.Check as checked
 use Rattle.program.proofs.Tests.{bool_cases}
 use Rattle.journal.specs.declared.Commit.{Commit}
-use Rattle.journal.specs.declared.Scanned.{Scanned}
-use Rattle.journal.specs.declared.Scanned.TheVariants.{BadLength, Damaged, Found}
+use Rattle.journal.specs.Scanned.{Scanned}
+use Rattle.journal.specs.Scanned.{BadLength, Damaged, Found}
 use Rattle.journal.specs.Format.{unowned, format_for}
 use Rattle.journal.specs.Reading.{Facts, facts_of}
 use Rattle.journal.specs.Answer.{facts_in, Scans}
@@ -25,12 +25,12 @@ use Rattle.step.specs.State.{env_of, Machine, machine_of}
 use Rattle.step.specs.Ready.{Legal}
 use Rattle.recovery.specs.Recover as recovery
 use Rattle.recovery.specs.Recover.{Outcome, outcome, damaged_as_of, Older, recover_of, Recovers, RecoverIs}
-use Rattle.recovery.specs.declared.Recovered.{Recovered}
-use Rattle.recovery.specs.declared.Recovered.TheVariants.{Restored, Refused}
+use Rattle.recovery.specs.Recover.{Recovered}
+use Rattle.recovery.specs.Recover.{Restored, Refused}
 use Rattle.recovery.proofs.Laws.{restored-apart}
 use Rattle.recovery.proofs.Ruling.{recover-is}
 use Rattle.recovery.proofs.Recovering.{Answered, answered, older-read, refused-program, refused-length, refused-damaged, refused-owner, restored}
-use Rattle.notes.specs.declared.Told.TheVariants as told
+use Rattle.notes.specs.Notes as told
 use Rattle.notes.specs.Notes.{NotePlace, Tells, answer_of, Ground, SpentIs, ReadTo}
 use Rattle.notes.proofs.Laws.{ground-some, ground-of, ground-to}
 

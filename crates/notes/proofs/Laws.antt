@@ -12,8 +12,8 @@ use Rattle.program.proofs.Grounds.{one-allowed, accepted-values}
 use Rattle.step.specs.State.{env_of, Machine}
 use Rattle.recovery.specs.Recover as recovery
 use Rattle.recovery.specs.Recover.{ChipGround, Outcome, RecoverIs}
-use Rattle.notes.specs.declared.Told.{Told}
-use Rattle.notes.specs.declared.Told.TheVariants.{Refused}
+use Rattle.notes.specs.Notes.{Told}
+use Rattle.notes.specs.Notes.{Refused}
 use Rattle.notes.specs.Notes.{Tells, answer_of, Ground, SpentIs}
 
 -- no refusal has the number 0

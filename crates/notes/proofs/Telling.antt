@@ -6,6 +6,7 @@ use mathlib.Core.Bool.{Bool, true, false}
 use mathlib.Core.List.{List, ◌++◌, append_assoc}
 use mathlib.Core.Logic.{◌⊎◌, inl, inr}
 use native.Mathlib.Omega.{arith}
+use Rattle.std.proofs.Common.{Option, None, Some}
 use lib.ListN.{length, get_or, take, drop, replicate, length-append}
 use lib.Dec.{eqb}
 use borrow.Author.Tests.{eq-eqb, ne_eqb}
@@ -19,7 +20,7 @@ use Rattle.program.proofs.AfterLaws.{checkpoint-before}
 use Rattle.graph.specs.Tables.{count_of, start_of}
 use Rattle.analysis.specs.Paths.{Live, Dead}
 use Rattle.analysis.specs.Analyse.{DeadSets, analyse_of, Analyses}
-use Rattle.analysis.specs.declared.Analysed.{Analysed}
+use Rattle.analysis.specs.Analyse.{Analysed}
 use Rattle.journal.specs.declared.Commit.{Commit}
 use Rattle.journal.specs.Format.{Format, kind_of, format_of, format_for, Saved, Checkpoint, images}
 use Rattle.journal.specs.Reading.{Facts, facts_of, Once, Rising, last_of}
@@ -107,29 +108,23 @@ module _ {page owner : ℕ} {p chip : List ℕ} {end place : ℕ} (t : ReadTo pa
       (b, t.taken.end_is, omega (arith, t.taken.end_is, ap length b, length-append (images (format_for page owner) t.taken.saves) (t.taken.rest ++ replicate r.erased 0xFF)))
 
   -- what the walk finds
-  pub cell-found : {kind at cell : ℕ} → kind ≡ kind_of owner
+  pub cell-found : {kind : ℕ} (at : ℕ) (cell : Option ℕ) → kind ≡ kind_of owner
       → ((o : ℕ) (saves : List Checkpoint) (rest : List ℕ) → chip ≡ images (format_of page kind o) saves ++ rest → end ≡ length (images (format_of page kind o) saves)
       → CellAt (format_of page kind o) saves at cell) → CellAt (format_for page owner) t.taken.saves at cell
-  cell-found {kind} {at} {cell} e f =
+  cell-found {kind} at cell e f =
       let g : (saves : List Checkpoint) (rest : List ℕ) → chip ≡ images (format_for page owner) saves ++ rest → end ≡ length (images (format_for page owner) saves)
       → CellAt (format_for page owner) saves at cell =
       subst (λ (k : ℕ). (saves : List Checkpoint) (rest : List ℕ) → chip ≡ images (format_of page k owner) saves ++ rest → end ≡ length (images (format_of page k owner) saves)
       → CellAt (format_of page k owner) saves at cell) e (f owner) in
       g _ _ bytes_of.0 bytes_of.1
 
-  module _ {at cell : ℕ} where
+  module _ {at : ℕ} where
     -- no record's value stands there
-    pub none_told : CellAt (format_for page owner) t.taken.saves at cell → cell ≡ 256 → ¬ NotePlace page owner p chip at
-    none_told (CellAt.some l v) e n = omega arith
-    none_told (CellAt.none z none) e n =
-        none n.cell (subst (ValueAt (format_for page owner) n.cell at 0) (one-reading n.reading t.taken.reading).0 n.stands)
+    pub none_told : CellAt (format_for page owner) t.taken.saves at None → ¬ NotePlace page owner p chip at
+    none_told none n = none n.cell (subst (ValueAt (format_for page owner) n.cell at 0) (one-reading n.reading t.taken.reading).0 n.stands)
 
     -- a record's does
-    pub stands : CellAt (format_for page owner) t.taken.saves at cell → ¬ (cell ≡ 256) → (cell < 256) × ValueAt (format_for page owner) cell at 0 t.taken.saves
-    stands (CellAt.some l v) e = (l, v)
-    stands (CellAt.none z none) e = absurd (e z)
-
-    module _ (v : ValueAt (format_for page owner) cell at 0 t.taken.saves) where
+    module _ {cell : ℕ} (v : CellAt (format_for page owner) t.taken.saves at (Some cell)) where
       pub cell-exists : cell < cells_of p
       cell-exists = value-exists (facts_of (format_for page owner) p) t.taken.reading.sound v
 

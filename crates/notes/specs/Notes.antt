@@ -1,7 +1,7 @@
 -- Notes in spent cells: document 02, Q-14, "Spent cells may hold anything." Where on a chip one may stand, a chip with one, and what `spent` answers. That a batch goes on with such
 -- a chip is crate `batch`'s.
 -- Assumes nothing.
-use Rattle.std.specs.Prelude.{ℕ, ◌+◌, ◌-◌, ◌<◌, ◌≡◌, Bool, true, cond, List, [], ◌∷◌, length, get_or}
+use Rattle.std.specs.Prelude.{ℕ, ◌+◌, ◌-◌, ◌<◌, ◌≡◌, Bool, true, cond, Option, None, Some, Result, Ok, Err, List, [], ◌∷◌, length, get_or}
 use Rattle.std.proofs.lemmas.List.Edits.{sets}
 use Rattle.program.specs.Check.{Answer}
 use Rattle.program.specs.Grounds.{Allowed, CallGround}
@@ -11,8 +11,8 @@ use Rattle.journal.specs.Format.{Format, format_for, chip_length, Saved, Checkpo
 use Rattle.journal.specs.Reading.{facts_of, first, last_of, Reading}
 use Rattle.journal.specs.Answer.{Taken}
 use Rattle.recovery.specs.Recover.{ChipGround}
-use Rattle.notes.specs.declared.Told.{Told}
-use Rattle.notes.specs.declared.Told.TheVariants.{May, Refused}
+use Rattle.program.specs.Refusal.{refusal_number}
+use Rattle.program.specs.declared.refusal.Refusal.{Refusal}
 
 -- ---- where a note may stand
 
@@ -51,6 +51,15 @@ pub record Noted (page owner : ℕ) (p chip l : List ℕ) : Type 0 where
 
 -- ---- what `spent` answers
 
+-- whether a note may stand there, or the number of a refusal
+pub data Told : Type 0 where
+  May : Bool → Told
+  Refused : ℕ → Told
+
+abbrev pub told_of : Result Bool Refusal → Told
+told_of (Ok b) = May b
+told_of (Err r) = Refused (refusal_number r)
+
 -- in document 01's terms: a number, 0 where it is accepted, and then 1 where a note may stand there, else 0
 abbrev pub answer_of : Told → Answer
 answer_of (May b) = record { number = 0; values = cond b 1 0 ∷ [] }
@@ -71,10 +80,10 @@ SpentIs p page owner chip at r = Allowed (Ground p page owner chip) (Tells page 
 
 -- ---- parts of the code
 
--- r is the cell of the record whose value stands at `at`, 256 where none does
-pub data CellAt (G : Format) (saves : List Checkpoint) (at r : ℕ) : Type 0 where
-  some : r < 256 → ValueAt G r at 0 saves → CellAt G saves at r
-  none : r ≡ 256 → ((c : ℕ) → ¬ ValueAt G c at 0 saves) → CellAt G saves at r
+-- r is the cell of the record whose value stands at `at`, none where none does
+abbrev pub CellAt : (G : Format) → (saves : List Checkpoint) → (at : ℕ) → Option ℕ → Type 0
+CellAt G saves at (Some c) = ValueAt G c at 0 saves
+CellAt G saves at None = (c : ℕ) → ¬ ValueAt G c at 0 saves
 
 -- recovery reads the chip: its whole saves end at `end`, and the last has the offset `place`
 pub record ReadTo (page owner : ℕ) (p chip : List ℕ) (end place : ℕ) : Type 0 where

@@ -9,52 +9,42 @@ ghost use Rattle.instruction.specs.Bytes.{cells_of};
 ghost use Rattle.program.specs.Places.{Places, is_start};
 ghost use Rattle.graph.specs.Tables.{count_of, start_of};
 ghost use Rattle.analysis.specs.Paths.{Dead};
-ghost use Rattle.journal.specs.Format.{format_of, Checkpoint, images};
+ghost use Rattle.journal.specs.Format.{format_of, kind_number, Checkpoint, images};
 ghost use Rattle.journal.specs.Parts.{Decides};
 ghost use Rattle.step.specs.Ready.{Legal};
-ghost use Rattle.notes.specs.Notes.{NotePlace, SpentIs, CellAt, ReadTo};
+ghost use Rattle.notes.specs.Notes.{NotePlace, told_of, SpentIs, CellAt, ReadTo};
 
 use analysis::analyse;
 use cellset::{contains, load};
 use instruction::byte_at;
 use instruction::opcodes::{length_in, length_table};
-use journal::owners::kind_of;
+use journal::owners::{Kind, kind_of};
 use journal::pages::fill;
-use journal::{RECORD, Scanned, scan};
+use journal::{RECORD, Unreadable, scan};
+use program::examine;
 use program::places::blank;
-use program::{Checked, examine};
+use program::refusal::Refusal;
 use recovery::damaged_as;
-
-// The answer: whether a note may stand at the place, or why the chip is not read. `answer_of` of specs/Notes.antt
-// gives document 02's number.
-#[derive(Clone, Copy)]
-pub enum Told {
-    May(bool),
-    Refused(u32),
-}
-
-// Where no record's value stands.
-const NO_CELL: usize = 256;
 
 // The cell of the record whose value stands at `at`, of the whole checkpoints that end at `end`: a walk from
 // record to record and over each MARK with its filling.
-fn record_at(chip: &[u8], end: usize, page: usize, kind: usize, at: usize) -> usize
-    requires { (end ≤ length chip.now) × (length chip.now ≤ 65536) × (0 < page) × (page ≤ 16) × (kind ≤ 1) }
-    ensures { (owner : ℕ) (saves : List Checkpoint) (rest : List ℕ) → chip.now ≡ images (format_of page kind owner) saves ++ rest → end ≡ length (images (format_of page kind owner) saves) → CellAt (format_of page kind owner) saves at result }
+fn record_at(chip: &[u8], end: usize, page: usize, kind: Kind, at: usize) -> Option<u8>
+    requires { (end ≤ length chip.now) × (length chip.now ≤ 65536) × (0 < page) × (page ≤ 16) }
+    ensures { (owner : ℕ) (saves : List Checkpoint) (rest : List ℕ) → chip.now ≡ images (format_of page (kind_number kind) owner) saves ++ rest → end ≡ length (images (format_of page (kind_number kind) owner) saves) → CellAt (format_of page (kind_number kind) owner) saves at result }
 {
-    let mut i: usize = 0;
+    let mut i = 0;
     while i < end {
         if chip[i] == RECORD {
             if i + 2 == at {
-                return byte_at(chip, i + 1) as usize;
+                return Some(byte_at(chip, i + 1));
             }
             i += 6;
         } else {
-            let mark = i + (14 + 4 * kind);
+            let mark = i + kind.mark_size();
             i = mark + fill(mark, page);
         }
     }
-    NO_CELL
+    None
 }
 
 // The number of the instruction that starts at offset o, in the order of the offsets.
@@ -63,7 +53,7 @@ fn number_of(program: &[u8], o: usize) -> usize
     ensures { (result < count_of program.now) × (start_of program.now result ≡ o) }
 {
     let lengths = length_table();
-    let mut here: usize = 1;
+    let mut here = 1;
     let mut number: usize = 0;
     while here < o {
         here += length_in(&lengths, program[here]);
@@ -79,7 +69,8 @@ fn is_dead(program: &[u8], o: usize, cell: u8) -> bool
 {
     let mut dead = [0u64; 2048];
     let mut sets = [0u64; 512];
-    let answer = analyse(program, &mut dead, &mut sets);
+    // An accepted program is not refused.
+    let _ = analyse(program, &mut dead, &mut sets);
     contains(load(&dead, 4 * number_of(program, o)), cell)
 }
 
@@ -97,15 +88,13 @@ fn may_stand(
     requires { Legal program.now × ReadTo page owner program.now chip.now end place }
     ensures { Decides (NotePlace page owner program.now chip.now at) result }
 {
-    let cell = record_at(chip, end, page, kind_of(owner), at);
-    if cell == NO_CELL {
-        return false;
+    match record_at(chip, end, page, kind_of(owner), at) {
+        Some(cell) => is_dead(program, place - 1, cell),
+        None => false,
     }
-    is_dead(program, place - 1, cell as u8)
 }
 
-// The answer for an accepted program: the number with which recovery refuses the chip, or whether a note may
-// stand there.
+// The answer for an accepted program: whether a note may stand there, or recovery's refusal of the chip.
 fn spent_legal(
     program: &[u8],
     table: &[u8; 2048],
@@ -113,50 +102,36 @@ fn spent_legal(
     page: u32,
     owner: u32,
     at: usize,
-) -> Told
+) -> Result<bool, Refusal>
     requires { Legal program.now × Places program.now table.now }
-    ensures { SpentIs program.now page owner chip.now at result }
+    ensures { SpentIs program.now page owner chip.now at (told_of result) }
 {
     let highest = byte_at(program, 0);
-    let contents = scan(chip, highest, table, page as usize, owner);
-    let answer = contents.answer;
-    match answer {
-        Scanned::BadLength => Told::Refused(11),
-        Scanned::Damaged => Told::Refused(damaged_as(chip, highest, table, page as usize)),
-        Scanned::Found {
-            end,
-            torn: _,
-            last,
-            own,
-        } => {
-            if !own {
-                return Told::Refused(16);
-            }
-            Told::May(may_stand(
-                program,
-                chip,
-                end,
-                last.place as usize,
-                page as usize,
-                owner,
-                at,
-            ))
-        }
+    let found = match scan(chip, highest, table, page as usize, owner) {
+        Ok(found) => found,
+        Err(Unreadable::BadLength) => return Err(Refusal::ChipLength),
+        Err(Unreadable::Damaged) => return Err(damaged_as(chip, highest, table, page as usize)),
+    };
+    if !found.own {
+        return Err(Refusal::AnotherPlan);
     }
+    Ok(may_stand(
+        program,
+        chip,
+        found.end,
+        found.last.place as usize,
+        page as usize,
+        owner,
+        at,
+    ))
 }
 
 // Whether a note may stand at the four bytes from `at` on, on a chip with pages of so many bytes whose MARKs are
-// to name the owner (0: MARKs that name none), or the number with which recovery refuses the program or the chip.
-pub fn spent(program: &[u8], chip: &[u8], page: u32, owner: u32, at: usize) -> Told
-    ensures { SpentIs program.now page owner chip.now at result }
+// to name the owner (0: MARKs that name none), or recovery's refusal of the program or the chip.
+pub fn spent(program: &[u8], chip: &[u8], page: u32, owner: u32, at: usize) -> Result<bool, Refusal>
+    ensures { SpentIs program.now page owner chip.now at (told_of result) }
 {
     let mut table = blank();
-    match examine(program, &mut table) {
-        Checked::Refused(number) => Told::Refused(number),
-        Checked::Program {
-            cells: _,
-            instructions: _,
-            excludes: _,
-        } => spent_legal(program, &table, chip, page, owner, at),
-    }
+    examine(program, &mut table)?;
+    spent_legal(program, &table, chip, page, owner, at)
 }

@@ -10,11 +10,11 @@ use lib.ListN.{length}
 use borrow.Author.Tests.{le-ltb}
 use Rattle.instruction.specs.Bytes.{cells_of}
 use Rattle.program.specs.Check.{check_of}
-use Rattle.program.specs.declared.Checked.{Checked}
-use Rattle.program.specs.declared.Checked.TheVariants as checked
+use Rattle.program.specs.Check.{Checked}
+use Rattle.program.specs.Check as checked
 use Rattle.analysis.specs.Analyse.{analysed_from, analyse_of, Analyses}
-use Rattle.analysis.specs.declared.Analysed.{Analysed}
-use Rattle.analysis.specs.declared.Analysed.TheVariants.{Sets, Refused}
+use Rattle.analysis.specs.Analyse.{Analysed}
+use Rattle.analysis.specs.Analyse.{Sets, Refused}
 use Rattle.analysis.proofs.Answering.{refused-by-check, short-dead, short-sets, answered}
 use Rattle.analysis.proofs.Fixed.{analysed-accepted}
 use Rattle.pitskelo.specs.Calls.{words_of, AnalyseCall}

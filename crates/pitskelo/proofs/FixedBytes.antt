@@ -13,12 +13,11 @@ use Rattle.word.proofs.Bytes.{load_lt}
 use Rattle.cellset.proofs.Bits.{le-or-lt}
 use Rattle.program.specs.Check as program
 use Rattle.program.specs.Grounds.{Ruled}
-use Rattle.program.specs.declared.Checked.{Checked}
-use Rattle.program.specs.declared.Checked.TheVariants as checked
+use Rattle.program.specs.Check.{Checked}
 use Rattle.program.proofs.Grounds.{ruled, accepted-values}
 use Rattle.analysis.specs.Analyse.{too_short, analysed_from, analyse_of, answer_of, DeadSets, ExcludeSets, Analyses}
-use Rattle.analysis.specs.declared.Analysed.{Analysed}
-use Rattle.analysis.specs.declared.Analysed.TheVariants.{Sets, Refused}
+use Rattle.analysis.specs.Analyse.{Analysed}
+use Rattle.analysis.specs.Analyse.{Sets, Refused}
 use Rattle.analysis.proofs.Fixed.{Words, analyse-fixed}
 use Rattle.pitskelo.specs.Calls.{words_of, AnalyseCall}
 use Rattle.pitskelo.proofs.Buffers.{word_at, word-past}
@@ -74,9 +73,9 @@ module _ {p d₀ s₀ d s d' s' : List ℕ} (f-d : Bytes d) (f-s : Bytes s) (f-d
 
 -- no refusal has it
 not-0 : {p : List ℕ} (k : Checked) (short : Bool) {n : ℕ} → Ruled p (program.answer_of k) → Refused n ≡ analysed_from k short → n ≡ 0 → ⊥
-not-0 (checked.Refused m) short r h z = let e : m ≡ 0 = cc in omega (arith, accepted-values r e)
-not-0 (checked.Program cells instructions excludes) true {n} r h z = let e : n ≡ 9 = cc in omega arith
-not-0 (checked.Program cells instructions excludes) false r h z = let e : ◌≡◌ {A = ℕ} 0 1 = cc in omega arith
+not-0 (program.Refused m) short r h z = let e : m ≡ 0 = cc in omega (arith, accepted-values r e)
+not-0 (program.Program cells instructions excludes) true {n} r h z = let e : n ≡ 9 = cc in omega arith
+not-0 (program.Program cells instructions excludes) false r h z = let e : ◌≡◌ {A = ℕ} 0 1 = cc in omega arith
 
 answer-filled : {p d₀ s₀ d s : List ℕ} (a : Analysed) → Analyses p d₀ s₀ d s a → (answer_of a).number ≡ 0 → DeadSets p d₀ d × ExcludeSets p s₀ s
 unfolding analyse_of

@@ -1,4 +1,3 @@
-pub mod Answers
 pub mod Stores
 pub mod Buffers
 pub mod Carrying

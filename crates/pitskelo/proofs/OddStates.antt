@@ -1,34 +1,24 @@
--- The number of a plan, and the refusal of a call that lends a state of another length.
+-- The refusal of a call that lends a state of another length.
 -- Assumes nothing.
 use Prim.Native.Nat.{ℕ, ◌/◌, ◌≤◌, ◌<◌}
-use mathlib.Core.Path.{◌≡◌, ap}
+use mathlib.Core.Path.{◌≡◌}
 use mathlib.Core.List.{List}
 use native.Mathlib.Omega.{arith}
 use borrow.Author.Tests.{lt-ltb, le-ltb, ne_eqb, eqb-false}
 use lib.Dec.{eqb, ltb}
 use lib.ListN.{length}
-use Rattle.program.specs.Check.{answer_of, check_of, number_of}
-use Rattle.program.specs.Grounds.{Ruled}
-use Rattle.program.specs.Places.{Places}
-use Rattle.program.specs.declared.Checked.TheVariants.{Program, Refused}
-use Rattle.program.proofs.Grounds.{accepted-values}
+use Rattle.program.specs.Check.{check_of, number_of}
+use Rattle.program.specs.Check.{Program, Refused}
+use Rattle.program.specs.Refusal.{refusal_number}
+use Rattle.program.specs.declared.refusal.Refusal.{Refusal}
+use Rattle.program.proofs.Refusals.{number-not0}
 use Rattle.program.proofs.Tests.{bool_cases}
-use Rattle.step.proofs.Tables.{legal}
-use Rattle.pitskelo.specs.Runs.{odd_state_of, PlanIs}
-
--- a refused plan's number, and an accepted plan
-pub refused-plan : {p table : List ℕ} {k : ℕ} → Refused k ≡ check_of p → Ruled p (answer_of (Refused k)) → PlanIs p k table
-refused-plan h r = record { number = ap number_of h; accepted = λ z. absurd (omega (arith, accepted-values r z)) }
-
-pub accepted-plan : {p table : List ℕ} {c i e : ℕ} → Program c i e ≡ check_of p → Places p table → PlanIs p 0 table
-accepted-plan h t = record { number = ap number_of h; accepted = λ z. (legal h, t) }
+use Rattle.pitskelo.specs.Runs.{odd_state_of}
 
 -- the plan's
-pub plan-refused : (p ws : List ℕ) {k : ℕ} → Refused k ≡ check_of p → Ruled p (answer_of (Refused k)) → k ≡ odd_state_of p ws
+pub plan-refused : (p ws : List ℕ) (r : Refusal) → Refused (refusal_number r) ≡ check_of p → refusal_number r ≡ odd_state_of p ws
 unfolding odd_state_of
-plan-refused p ws {k} h r =
-    let some : k ≡ 0 → ⊥ = λ z. omega (arith, accepted-values r z) in
-    rw (← h, ne_eqb k 0 some)
+plan-refused p ws r h = rw (← h, ne_eqb (refusal_number r) 0 (number-not0 r))
 
 -- else 9 where there are too few words
 pub words-short : (p ws : List ℕ) {c i e : ℕ} → Program c i e ≡ check_of p → length ws / 8 < 512 → 9 ≡ odd_state_of p ws

@@ -11,8 +11,8 @@ use lib.ListN.{length, take}
 use Rattle.step.specs.declared.Regs.{Regs}
 use Rattle.step.specs.State.{Env, env_of, Machine, machine_of}
 use Rattle.journal.specs.Format.{owner_of_plan}
-use Rattle.recovery.specs.declared.Recovered.{Recovered}
-use Rattle.recovery.specs.declared.Recovered.TheVariants.{Restored}
+use Rattle.recovery.specs.Recover.{Recovered}
+use Rattle.recovery.specs.Recover.{Restored}
 use Rattle.program.proofs.Tests.{bool_cases}
 use Rattle.recovery.specs.Recover.{Recovers, Outcome, outcome, answer_of}
 use Rattle.recovery.proofs.Laws.{one-outcome}

@@ -8,11 +8,13 @@ use borrow.Author.Tests.{eq-eqb, ne_eqb}
 use lib.IntN.{ℤ}
 use lib.ListN.{length, get_or, take}
 use lib.Seq.{sets}
-use Rattle.run.specs.declared.Ended.{Ended}
+use Rattle.run.specs.declared.Ended as code
+use Rattle.run.specs.declared.Ended.TheVariants as exit
+use Rattle.run.specs.Run.{Ended}
 use Rattle.step.specs.declared.Regs.{Regs}
 use Rattle.step.specs.State.{Env, env_of, Machine, machine_of}
 use Rattle.program.specs.Check.{check_of, number_of}
-use Rattle.run.specs.Run.{Outcome, outcome, refusal_of, call_of, answer_of}
+use Rattle.run.specs.Run.{Outcome, outcome, refusal_of, call_of, ended_of, answer_of}
 use Rattle.run.proofs.Accepting.{outputs-first}
 use Rattle.journal.specs.Format.{owner_of_plan}
 use Rattle.layout.specs.Numbers.{numbers_from, signed_of, signed_bytes}
@@ -22,6 +24,13 @@ use Rattle.pitskelo.specs.Runs.{sets_in, odd_state_of, RunLent, ran_on, run_numb
 use Rattle.pitskelo.proofs.OddStates.{odd_refused}
 use Rattle.pitskelo.proofs.Recovering.{words-in, Loaded, machine-loaded, carried}
 use Rattle.stretches.proofs.Running.{signed-of-length, call-number, call-values, call-refused}
+
+-- an exit has the number 0
+pub exit-number : (x : code.Ended) → 0 ≡ (answer_of (ended_of x)).number
+exit-number (exit.Stopped k) = refl
+exit-number exit.Spent = refl
+exit-number exit.NoReading = refl
+exit-number exit.BufferFull = refl
 
 -- a call whose number is not 0 is a refusal
 refuses : (l : RunLent) → ¬ (run_number l ≡ 0) → run_call_of l ≡ run_refused l (run_number l)

@@ -4,7 +4,7 @@ use Rattle.std.specs.Prelude.{ℕ, ◌*◌, ◌/◌, ◌≤◌, ◌≡◌, List,
 use Rattle.program.specs.Check.{Answer, answer_of, check_of}
 use Rattle.layout.specs.Numbers.{numbers_from}
 use Rattle.analysis.specs.Analyse as analysis
-use Rattle.analysis.specs.declared.Analysed.{Analysed}
+use Rattle.analysis.specs.Analyse.{Analysed}
 
 -- the number parameters after a call: the answer's values where it is accepted, else as they were
 abbrev pub leaves : Answer → List ℕ → List ℕ

@@ -2,7 +2,7 @@
 -- Assumes nothing.
 use Rattle.std.specs.Prelude.{ℕ, ◌≡◌, List}
 use Rattle.journal.specs.Format.{owner_of_plan}
-use Rattle.notes.specs.declared.Told.{Told}
+use Rattle.notes.specs.Notes.{Told}
 use Rattle.notes.specs.Notes.{SpentIs, answer_of}
 use Rattle.pitskelo.specs.Calls.{leaves}
 

@@ -3,9 +3,7 @@
 use Rattle.std.specs.Prelude.{ℕ, ◌/◌, min, ◌≡◌, List, [], ◌∷◌, ◌++◌, cond, length, take, eqb, ltb}
 use Rattle.std.proofs.lemmas.List.Edits.{sets}
 use Rattle.program.specs.Check.{check_of, number_of}
-use Rattle.program.specs.Places.{Places}
 use Rattle.step.specs.State.{env_of}
-use Rattle.step.specs.Ready.{Legal}
 use Rattle.run.specs.Run.{Outcome, call_of, answer_of}
 use Rattle.recovery.specs.Recover as recovery
 use Rattle.recovery.specs.Recover.{Recovers}
@@ -20,11 +18,6 @@ sets_in b = numbers_from 8 (min (length b / 8) 512) b 0
 -- "a state of another length .. gives 10", at its place in the order: behind the plan's refusals and 9
 unfoldable pub odd_state_of : (p sets : List ℕ) → ℕ
 odd_state_of p sets = let n = number_of (check_of p) in cond (eqb n 0) (cond (ltb (length sets / 8) 512) 9 10) n
-
--- the number of the plan's refusal, and where there is none its table of places
-pub record PlanIs (p : List ℕ) (n : ℕ) (table : List ℕ) : Type 0 where
-  pub number : n ≡ number_of (check_of p)
-  pub accepted : n ≡ 0 → Legal p × Places p table
 
 -- what a run of the bytes is lent; the entry says the page length of the chip, and the plan is the owner that the chip's MARKs name
 pub record RunLent : Type 0 where

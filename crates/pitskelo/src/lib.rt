@@ -3,106 +3,119 @@
 // refusal's number of document 01; a refused call alters nothing that was lent.
 #![tactic(auto)]
 
-mod ended;
 mod words;
 
 ghost use Rattle.std.specs.Prelude.{[], ◌∷◌, ◌/◌, ◌≤◌, min, length, ◌≡◌};
 ghost use Rattle.pitskelo.specs.Calls.{CheckCall, AnalyseCall};
-ghost use Rattle.program.specs.Places.{Blank};
-ghost use Rattle.recovery.specs.Recover as recovering;
+ghost use Rattle.program.specs.Refusal.{refusal_number, number_if};
 ghost use Rattle.pitskelo.specs.Storing.{BothStored};
-ghost use Rattle.pitskelo.specs.Runs.{odd_state_of, PlanIs, run_call_of, RecoverCall};
+ghost use Rattle.pitskelo.specs.Runs.{odd_state_of, run_call_of, RecoverCall};
 ghost use Rattle.pitskelo.specs.Folds.{FoldCall};
 ghost use Rattle.pitskelo.specs.Notes.{SpentCall};
 
-use analysis::Analysed;
-use ended::{kind, refusal};
-use folding::{Folded, fold};
+use folding::fold;
 use journal::owners::owner_of;
 use layout::{load_cells, load_marks, load_regs, load_state, load_words, store_parts, store_state};
-use notes::{Told, spent};
+use notes::spent;
+use program::examine;
 use program::places::blank;
-use program::{Checked, examine};
-use recovery::{Recovered, recover_value};
+use program::refusal::Refusal;
+use recovery::recover_value;
 use stretches::run_all;
 use words::store_words;
 
 // The result of a call that is accepted.
 const ACCEPTED: u32 = 0;
 
+// The result of a call: 0, or the refusal's number.
+fn number_of(answer: Result<(), Refusal>) -> u32
+    ensures { result ≡ number_if answer }
+{
+    match answer {
+        Ok(()) => ACCEPTED,
+        Err(refusal) => u32::from(refusal),
+    }
+}
+
+// The check of a plan, whose numbers are stored.
+fn check_lent(
+    plan: &[u8],
+    cells: &mut u32,
+    commands: &mut u32,
+    excludes: &mut u32,
+) -> Result<(), Refusal>
+    ensures { CheckCall plan.now (cells.old ∷ commands.old ∷ excludes.old ∷ []) (cells.new ∷ commands.new ∷ excludes.new ∷ []) (number_if result) }
+{
+    let sizes = program::check(plan)?;
+    *cells = sizes.cells;
+    *commands = sizes.instructions;
+    *excludes = sizes.excludes;
+    Ok(())
+}
+
 // Checks a plan and gives its numbers of cells, commands and EXCLUDEs.
 pub fn pitskelo_check(plan: &[u8], cells: &mut u32, commands: &mut u32, excludes: &mut u32) -> u32
     ensures { CheckCall plan.now (cells.old ∷ commands.old ∷ excludes.old ∷ []) (cells.new ∷ commands.new ∷ excludes.new ∷ []) result }
 {
-    match program::check(plan) {
-        Checked::Program {
-            cells: c,
-            instructions: n,
-            excludes: e,
-        } => {
-            *cells = c;
-            *commands = n;
-            *excludes = e;
-            ACCEPTED
-        }
-        Checked::Refused(number) => number,
-    }
+    number_of(check_lent(plan, cells, commands, excludes))
 }
 
-// Stores the first m words of d and the first n of s where both buffers are long enough, else gives 9.
-fn store_both(dead: &mut [u8], sets: &mut [u8], d: &[u64], m: usize, s: &[u64], n: usize) -> u32
+// Stores the first m words of d and the first n of s where both buffers are long enough.
+fn store_both(
+    dead: &mut [u8],
+    sets: &mut [u8],
+    d: &[u64],
+    m: usize,
+    s: &[u64],
+    n: usize,
+) -> Result<(), Refusal>
     requires { (m ≤ length d.now) × (m ≤ 2048) × (n ≤ length s.now) × (n ≤ 512) }
-    ensures { BothStored dead.old sets.old d.now m s.now n dead.new sets.new result }
+    ensures { BothStored dead.old sets.old d.now m s.now n dead.new sets.new (number_if result) }
 {
-    if dead.len() / 8 < 2048 {
-        return 9;
-    }
-    if sets.len() / 8 < 512 {
-        return 9;
+    if dead.len() / 8 < 2048 || sets.len() / 8 < 512 {
+        return Err(Refusal::ShortWords);
     }
     store_words(dead, d, m);
     store_words(sets, s, n);
-    ACCEPTED
+    Ok(())
+}
+
+// The analysis of a plan, whose sets are stored.
+fn analyse_lent(plan: &[u8], dead: &mut [u8], sets: &mut [u8]) -> Result<(), Refusal>
+    ensures { AnalyseCall plan.now dead.old sets.old dead.new sets.new (number_if result) }
+{
+    let mut d = [0u64; 2048];
+    let mut s = [0u64; 512];
+    let sizes = analysis::analyse(plan, &mut d, &mut s)?;
+    store_both(
+        dead,
+        sets,
+        &d,
+        4 * sizes.instructions as usize,
+        &s,
+        8 * sizes.excludes as usize,
+    )
 }
 
 // Analyses a plan into two buffers of 64-bit words: the dead sets, and DE and RO of each EXCLUDE.
 pub fn pitskelo_analyse(plan: &[u8], dead: &mut [u8], sets: &mut [u8]) -> u32
     ensures { AnalyseCall plan.now dead.old sets.old dead.new sets.new result }
 {
-    let mut d = [0u64; 2048];
-    let mut s = [0u64; 512];
-    match analysis::analyse(plan, &mut d, &mut s) {
-        Analysed::Sets {
-            cells: _,
-            instructions,
-            excludes,
-        } => store_both(
-            dead,
-            sets,
-            &d,
-            4 * instructions as usize,
-            &s,
-            8 * excludes as usize,
-        ),
-        Analysed::Refused(number) => number,
-    }
+    number_of(analyse_lent(plan, dead, sets))
 }
 
-// The refusal of a call that lends a state of another length: the plan's, else 9, else 10.
-fn odd_state(plan: &[u8], sets: &[u8]) -> u32
-    ensures { result ≡ odd_state_of plan.now sets.now }
+// The refusal of a call that lends a state of another length: the plan's, else that of the words, else the state's.
+fn odd_state(plan: &[u8], sets: &[u8]) -> Refusal
+    ensures { refusal_number result ≡ odd_state_of plan.now sets.now }
 {
     match program::check(plan) {
-        Checked::Refused(number) => number,
-        Checked::Program {
-            cells: _,
-            instructions: _,
-            excludes: _,
-        } => {
+        Err(refusal) => refusal,
+        Ok(_) => {
             if sets.len() / 8 < 512 {
-                return 9;
+                Refusal::ShortWords
+            } else {
+                Refusal::UnsoundState
             }
-            10
         }
     }
 }
@@ -111,20 +124,7 @@ fn odd_state(plan: &[u8], sets: &[u8]) -> u32
 fn word_count(sets: &[u8]) -> usize
     ensures { result ≡ min (length sets.now / 8) 512 }
 {
-    let n = sets.len() / 8;
-    if 512 < n {
-        return 512;
-    }
-    n
-}
-
-fn restored(answer: Recovered) -> u32
-    ensures { result ≡ (recovering.answer_of answer).number }
-{
-    match answer {
-        Recovered::Restored => 0,
-        Recovered::Refused(number) => number,
-    }
+    (sets.len() / 8).min(512)
 }
 
 // How many bytes a byte chip stores as a unit.
@@ -134,60 +134,45 @@ const BYTE: u32 = 1;
 const PAGE: u32 = 16;
 
 // Restores the state that a chip with pages of so many bytes holds; the lent state's bytes are overwritten.
-fn recover_lent(page: u32, plan: &[u8], sets: &[u8], chip: &[u8], state: &mut [u8]) -> u32
-    ensures { RecoverCall page plan.now sets.now chip.now state.old state.new result }
+fn recover_lent(
+    page: u32,
+    plan: &[u8],
+    sets: &[u8],
+    chip: &[u8],
+    state: &mut [u8],
+) -> Result<(), Refusal>
+    ensures { RecoverCall page plan.now sets.now chip.now state.old state.new (number_if result) }
 {
     if state.len() != 1312 {
-        return odd_state(plan, sets);
+        return Err(odd_state(plan, sets));
     }
     let n = word_count(sets);
     let words = load_words(sets, n);
     let owner = owner_of(plan);
-    let recovery = recover_value(
+    let after = recover_value(
         load_state(state, page, owner),
         plan,
         &words[..n],
         chip,
         page,
         owner,
-    );
-    let answer = recovery.answer;
-    let number = restored(answer);
-    if number != 0 {
-        return number;
-    }
-    let after = recovery.state;
+    )?;
     store_state(state, after);
-    ACCEPTED
+    Ok(())
 }
 
 // Restores the state that a byte chip holds.
 pub fn pitskelo_recover(plan: &[u8], sets: &[u8], chip: &[u8], state: &mut [u8]) -> u32
     ensures { RecoverCall 1 plan.now sets.now chip.now state.old state.new result }
 {
-    recover_lent(BYTE, plan, sets, chip, state)
+    number_of(recover_lent(BYTE, plan, sets, chip, state))
 }
 
 // Restores the state that a page chip holds.
 pub fn pitskelo_page_recover(plan: &[u8], sets: &[u8], chip: &[u8], state: &mut [u8]) -> u32
     ensures { RecoverCall 16 plan.now sets.now chip.now state.old state.new result }
 {
-    recover_lent(PAGE, plan, sets, chip, state)
-}
-
-// The refusal of a plan, 0 where it is accepted and the table, blank before, has its places.
-fn plan_refusal(plan: &[u8], table: &mut [u8; 2048]) -> u32
-    requires { Blank table.old }
-    ensures { PlanIs plan.now result table.new }
-{
-    match examine(plan, table) {
-        Checked::Refused(number) => number,
-        Checked::Program {
-            cells: _,
-            instructions: _,
-            excludes: _,
-        } => 0,
-    }
+    number_of(recover_lent(PAGE, plan, sets, chip, state))
 }
 
 // Runs the plan from the lent state for at most `budget` steps.
@@ -204,17 +189,14 @@ fn run_lent(
     steps: &mut u64,
     taken: &mut u64,
     given: &mut u64,
-) -> u32
-    ensures { record { result = result; chip = chip.new; state = state.new; outputs = outputs.new; numbers = ended.new ∷ steps.new ∷ taken.new ∷ given.new ∷ [] } ≡ run_call_of (record { page = page; plan = plan.now; sets = sets.now; chip = chip.old; state = state.old; readings = readings.now; outputs = outputs.old; budget = budget; numbers = ended.old ∷ steps.old ∷ taken.old ∷ given.old ∷ [] }) }
+) -> Result<(), Refusal>
+    ensures { record { result = number_if result; chip = chip.new; state = state.new; outputs = outputs.new; numbers = ended.new ∷ steps.new ∷ taken.new ∷ given.new ∷ [] } ≡ run_call_of (record { page = page; plan = plan.now; sets = sets.now; chip = chip.old; state = state.old; readings = readings.now; outputs = outputs.old; budget = budget; numbers = ended.old ∷ steps.old ∷ taken.old ∷ given.old ∷ [] }) }
 {
     if state.len() != 1312 {
-        return odd_state(plan, sets);
+        return Err(odd_state(plan, sets));
     }
     let mut table = blank();
-    let number = plan_refusal(plan, &mut table);
-    if number != 0 {
-        return number;
-    }
+    examine(plan, &mut table)?;
     let n = word_count(sets);
     let words = load_words(sets, n);
     let mut cells = load_cells(state);
@@ -230,19 +212,14 @@ fn run_lent(
         readings,
         outputs,
         budget,
-    );
-    let end = ran.ended;
-    let number = refusal(end);
-    if number != 0 {
-        return number;
-    }
+    )?;
     let pass = ran.pass;
     store_parts(state, pass.regs, &cells[..], &marks[..]);
-    *ended = kind(end);
+    *ended = u32::from(ran.ended);
     *steps = pass.steps;
     *taken = pass.taken as u64;
     *given = pass.written as u64;
-    ACCEPTED
+    Ok(())
 }
 
 // Runs the plan on a byte chip, from the lent state for at most `budget` steps.
@@ -261,9 +238,9 @@ pub fn pitskelo_run(
 ) -> u32
     ensures { record { result = result; chip = chip.new; state = state.new; outputs = outputs.new; numbers = ended.new ∷ steps.new ∷ taken.new ∷ given.new ∷ [] } ≡ run_call_of (record { page = 1; plan = plan.now; sets = sets.now; chip = chip.old; state = state.old; readings = readings.now; outputs = outputs.old; budget = budget; numbers = ended.old ∷ steps.old ∷ taken.old ∷ given.old ∷ [] }) }
 {
-    run_lent(
+    number_of(run_lent(
         BYTE, plan, sets, chip, state, readings, outputs, budget, ended, steps, taken, given,
-    )
+    ))
 }
 
 // The same on a page chip.
@@ -282,9 +259,37 @@ pub fn pitskelo_page_run(
 ) -> u32
     ensures { record { result = result; chip = chip.new; state = state.new; outputs = outputs.new; numbers = ended.new ∷ steps.new ∷ taken.new ∷ given.new ∷ [] } ≡ run_call_of (record { page = 16; plan = plan.now; sets = sets.now; chip = chip.old; state = state.old; readings = readings.now; outputs = outputs.old; budget = budget; numbers = ended.old ∷ steps.old ∷ taken.old ∷ given.old ∷ [] }) }
 {
-    run_lent(
+    number_of(run_lent(
         PAGE, plan, sets, chip, state, readings, outputs, budget, ended, steps, taken, given,
-    )
+    ))
+}
+
+// The fold of an old byte chip onto a new one, whose numbers are stored.
+fn fold_lent(
+    plan: &[u8],
+    sets: &[u8],
+    old: &[u8],
+    new: &mut [u8],
+    stored: u64,
+    budget: u64,
+    after: &mut u64,
+    finished: &mut u32,
+) -> Result<(), Refusal>
+    ensures { FoldCall (record { plan = plan.now; sets = sets.now; old = old.now; new = new.old; stored = stored; budget = budget; numbers = after.old ∷ finished.old ∷ [] }) (record { result = number_if result; new = new.new; numbers = after.new ∷ finished.new ∷ [] }) }
+{
+    let count = word_count(sets);
+    let words = load_words(sets, count);
+    let standing = fold(
+        plan,
+        &words[..count],
+        old,
+        new,
+        stored as usize,
+        budget as usize,
+    )?;
+    *after = standing.stored as u64;
+    *finished = u32::from(standing.finished);
+    Ok(())
 }
 
 // Folds an old byte chip onto a new one: the next bytes of its one save, at most `budget`.
@@ -300,51 +305,27 @@ pub fn pitskelo_fold(
 ) -> u32
     ensures { FoldCall (record { plan = plan.now; sets = sets.now; old = old.now; new = new.old; stored = stored; budget = budget; numbers = after.old ∷ finished.old ∷ [] }) (record { result = result; new = new.new; numbers = after.new ∷ finished.new ∷ [] }) }
 {
-    let count = word_count(sets);
-    let words = load_words(sets, count);
-    match fold(
-        plan,
-        &words[..count],
-        old,
-        new,
-        stored as usize,
-        budget as usize,
-    ) {
-        Folded::Stored {
-            stored: n,
-            finished: all,
-        } => {
-            *after = n as u64;
-            *finished = all as u32;
-            ACCEPTED
-        }
-        Folded::Refused(number) => number,
-    }
+    number_of(fold_lent(plan, sets, old, new, stored, budget, after, finished))
 }
 
 // Tells whether a note may stand at a place of a chip with pages of so many bytes.
-fn spent_lent(page: u32, plan: &[u8], chip: &[u8], place: u64, may: &mut u32) -> u32
-    ensures { SpentCall page plan.now chip.now place (may.old ∷ []) (may.new ∷ []) result }
+fn spent_lent(page: u32, plan: &[u8], chip: &[u8], place: u64, may: &mut u32) -> Result<(), Refusal>
+    ensures { SpentCall page plan.now chip.now place (may.old ∷ []) (may.new ∷ []) (number_if result) }
 {
-    match spent(plan, chip, page, owner_of(plan), place as usize) {
-        Told::May(told) => {
-            *may = told as u32;
-            ACCEPTED
-        }
-        Told::Refused(number) => number,
-    }
+    *may = u32::from(spent(plan, chip, page, owner_of(plan), place as usize)?);
+    Ok(())
 }
 
 // Tells whether a note may stand at a place of a byte chip.
 pub fn pitskelo_spent(plan: &[u8], chip: &[u8], place: u64, may: &mut u32) -> u32
     ensures { SpentCall 1 plan.now chip.now place (may.old ∷ []) (may.new ∷ []) result }
 {
-    spent_lent(BYTE, plan, chip, place, may)
+    number_of(spent_lent(BYTE, plan, chip, place, may))
 }
 
 // The same of a page chip.
 pub fn pitskelo_page_spent(plan: &[u8], chip: &[u8], place: u64, may: &mut u32) -> u32
     ensures { SpentCall 16 plan.now chip.now place (may.old ∷ []) (may.new ∷ []) result }
 {
-    spent_lent(PAGE, plan, chip, place, may)
+    number_of(spent_lent(PAGE, plan, chip, place, may))
 }

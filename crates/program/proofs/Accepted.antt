@@ -14,8 +14,8 @@ use Rattle.instruction.specs.Table.{row_of, targets, successors_of, successors, 
 use Rattle.program.specs.Starts.{starts_from, starts, refusal_at_of, first_refusal, excludes, last_opcode, among, all_among_of, jumps_among}
 use Rattle.program.specs.Check.{closes, check_of}
 use Rattle.program.specs.Places.{is_start, Decodes}
-use Rattle.program.specs.declared.Checked.{Checked}
-use Rattle.program.specs.declared.Checked.TheVariants.{Program, Refused}
+use Rattle.program.specs.Check.{Checked}
+use Rattle.program.specs.Check.{Program, Refused}
 use Rattle.instruction.specs.declared.Flow.{Flow}
 use Rattle.instruction.specs.declared.Flow.TheVariants.{Halt, Next, Goto, Branch}
 use Rattle.program.proofs.Tests.{bool_cases, clash, or_cases, or-none, and_both}

@@ -12,8 +12,8 @@ use Rattle.instruction.specs.Bytes.{byte}
 use Rattle.program.specs.Starts.{starts, first_refusal, excludes, last_opcode, jumps_among, jump_count, all_first_of}
 use Rattle.program.specs.Check.{closes, walk_of, check_of, Walks}
 use Rattle.program.specs.Places.{is_start, placed, Decodes}
-use Rattle.program.specs.declared.Walked.TheVariants.{All, Bad}
-use Rattle.program.specs.declared.Checked.TheVariants.{Program, Refused}
+use Rattle.program.specs.Check.{All, Bad}
+use Rattle.program.specs.Check.{Program, Refused}
 use Rattle.program.proofs.Tests.{bool_cases}
 use Rattle.program.proofs.Noting.{first-same}
 use Rattle.program.proofs.PlaceLaws.{placed-start}

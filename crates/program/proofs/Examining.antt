@@ -5,12 +5,15 @@ use mathlib.Core.List.{List}
 use Prim.Native.Nat.{ℕ}
 use native.Mathlib.Omega.{arith}
 use lib.Seq.{ext_get_or}
-use Rattle.program.specs.Check.{check_of, Walks, Fills}
+use Rattle.std.proofs.Common.{Result, Ok, Err, is_err, true, false}
+use Rattle.program.specs.declared.Sizes.{Sizes}
+use Rattle.program.specs.declared.refusal.Refusal.{Refusal}
+use Rattle.program.specs.Check.{checked_of, check_of, Walks, Fills}
 use Rattle.program.specs.Grounds.{Checks, Examines}
 use Rattle.program.specs.Places.{Blank}
-use Rattle.program.specs.declared.Checked.{Checked}
-use Rattle.program.specs.declared.Checked.TheVariants.{Program, Refused}
-use Rattle.program.specs.declared.Walked.{Walked}
+use Rattle.program.specs.Check.{Checked}
+use Rattle.program.specs.Check.{Program, Refused}
+use Rattle.program.specs.Check.{Walked}
 use Rattle.program.proofs.Grounds.{ruled}
 use Rattle.program.proofs.Accepted.{accepted, decodes-accepted}
 
@@ -50,3 +53,13 @@ examined-refused {p} f h b a = record {
   places = λ c n e d. absurd (apart d refl);
   kept = λ k d. blank-same b a;
 }
+
+-- the two by the code's answer
+pub examined-by : {p before after : List ℕ} (r : Result Sizes Refusal) → is_err r ≡ false → Fills p (checked_of r) after → Examines p (checked_of r) before after
+examined-by (Ok s) e f = examined f refl
+examined-by (Err x) e f = let z : ◌≡◌ {A = ℕ} 0 1 = cc in absurd (omega arith)
+
+pub refused-by : {p before table after : List ℕ} (r : Result Sizes Refusal) → is_err r ≡ true → Fills p (checked_of r) table → Blank before → Blank after
+    → Examines p (checked_of r) before after
+refused-by (Ok s) e f b a = let z : ◌≡◌ {A = ℕ} 0 1 = cc in absurd (omega arith)
+refused-by (Err x) e f b a = examined-refused f refl b a

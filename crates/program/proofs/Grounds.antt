@@ -15,8 +15,8 @@ use Rattle.instruction.specs.Table.{named, all_below, table_fits_of}
 use Rattle.program.specs.Starts.{starts, refusal_at_of, first_refusal, excludes, last_opcode, jumps_among}
 use Rattle.program.specs.Check.{Answer, answer_of, number_of, closes, check_of}
 use Rattle.program.specs.Grounds.{BadAt, unknown, cut, missing, table, FirstBad, here, later, Ground, size, command, many, last, jump, Allowed, granted, denied, Ruled, CallGround, plan, words, own}
-use Rattle.program.specs.declared.Checked.{Checked}
-use Rattle.program.specs.declared.Checked.TheVariants.{Program, Refused}
+use Rattle.program.specs.Check.{Checked}
+use Rattle.program.specs.Check.{Program, Refused}
 use Rattle.program.proofs.Tests.{bool_cases, clash, or_cases}
 
 -- of two numbers neither of which is below the other

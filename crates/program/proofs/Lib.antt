@@ -1,5 +1,6 @@
 pub mod Tests
 pub mod Reading
+pub mod Refusals
 pub mod Left
 pub mod Walks
 pub mod Filling

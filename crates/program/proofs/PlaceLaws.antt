@@ -1,15 +1,16 @@
 -- What a byte of the table of places says of the program.
 -- Assumes nothing.
-use mathlib.Core.Path.{◌≡◌}
+use Rattle.std.specs.Prelude.{Option, Some, None, is_some}
+use mathlib.Core.Path.{◌≡◌, refl, sym}
 use mathlib.Core.List.{List}
 use mathlib.Core.Bool.{Bool, true, false, cond}
 use Prim.Native.Nat.{ℕ, ◌+◌, ◌*◌, ◌%◌}
 use native.Mathlib.Omega.{arith}
-use lib.Dec.{eqb}
-use borrow.Author.Tests.{eq-eqb, ne_eqb}
+use lib.Dec.{eqb, ltb}
+use borrow.Author.Tests.{eq-eqb, ne_eqb, lt-ltb}
 use Rattle.instruction.specs.Bytes.{byte}
 use Rattle.program.specs.Starts.{starts}
-use Rattle.program.specs.Places.{opcode_before, is_start, after_checkpoint, is_exclude, exclude_number, place_of, entry_at, start_here, after_here, exclude_here, read_place, placed, Places}
+use Rattle.program.specs.Places.{opcode_before, is_start, after_checkpoint, is_exclude, exclude_number, place_of, entry_at, start_here, after_here, exclude_here, one_more, read_place, placed, Places}
 use Rattle.program.proofs.Tests.{bool_cases}
 
 -- of the byte of a start, by its three parts
@@ -55,3 +56,12 @@ pub place_read : (p table : List ℕ) → Places p table → (t : ℕ)
     → read_place (entry_at table t) ≡ record { start = is_start p t; after = after_checkpoint p t; exclude = cond (is_exclude p t) (exclude_number p t + 1) 0 }
 unfolding read_place
 place_read p table h t = rw (h t) (λ i. record { start = place-start p t i; after = place_after p t i; exclude = place-exclude p t i })
+
+-- an EXCLUDE's number as an Option
+pub some-more : (o : Option ℕ) → is_some o ≡ ltb 0 (one_more o)
+some-more None = refl
+some-more (Some n) = sym (lt-ltb 0 (n + 1) (omega arith))
+
+pub more-some : (o : Option ℕ) (n : ℕ) → one_more o ≡ n + 1 → o ≡ Some n
+more-some None n h = absurd (omega arith)
+more-some (Some m) n h = let e : m ≡ n = omega arith in rw e

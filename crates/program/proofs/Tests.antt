@@ -1,7 +1,8 @@
 -- Truth values: going by cases, and what a disjunction or a conjunction tells.
 -- Assumes nothing.
 use mathlib.Core.Path.{◌≡◌, refl}
-use mathlib.Core.Bool.{Bool, true, false, cond, ◌&&◌, ◌||◌}
+use mir.Val.{bool_byte}
+use mathlib.Core.Bool.{not, Bool, true, false, cond, ◌&&◌, ◌||◌}
 use Prim.Native.Nat.{ℕ, ◌≤◌}
 use native.Mathlib.Omega.{arith}
 
@@ -29,3 +30,16 @@ and_both false b h = clash false h refl
 pub one-most : (b : Bool) → cond b 1 0 ≤ 1
 one-most true = omega arith
 one-most false = omega arith
+
+pub not-true : (b : Bool) → not b ≡ true → b ≡ false
+not-true true h = clash false h refl
+not-true false h = refl
+
+pub not-false : (b : Bool) → not b ≡ false → b ≡ true
+not-false true h = refl
+not-false false h = clash true refl h
+
+-- the number of a bool
+pub bool-number : (b : Bool) → bool_byte b ≡ cond b 1 0
+bool-number true = refl
+bool-number false = refl

@@ -15,7 +15,7 @@ use Rattle.instruction.specs.declared.Flow.{Flow}
 use Rattle.program.specs.Starts.{starts_from, starts, refusal_at_of, excludes, jump_count, note_of}
 use Rattle.program.specs.Places.{place_from_of, Blank}
 use Rattle.program.specs.Check.{Walks}
-use Rattle.program.specs.declared.Walked.TheVariants.{All, Bad}
+use Rattle.program.specs.Check.{All, Bad}
 use Rattle.program.proofs.Walks.{Walking, walking-first, walking-turn, walking-bad, walking-done}
 use Rattle.program.proofs.Filling.{Filling, filling-first, filling-turn, filling-done}
 use Rattle.program.proofs.Noting.{Noting, noting-first, noting-turn, noting-done, jump-length}

@@ -12,7 +12,7 @@ use Rattle.instruction.specs.Bytes.{byte, length_of, instruction_at_of}
 use Rattle.instruction.specs.Table.{row_of, targets}
 use Rattle.program.specs.Starts.{starts, refusal_at_of, first_refusal, excludes, last_opcode, jump_count}
 use Rattle.program.specs.Check.{walk_of}
-use Rattle.program.specs.declared.Walked.TheVariants.{All}
+use Rattle.program.specs.Check.{All}
 use Rattle.program.proofs.Tests.{bool_cases}
 
 -- an instruction with no refusal has a length, and ends within the program

@@ -1,18 +1,36 @@
 -- The check of a program: document 01, "Refused inputs". "Rising order, but 2 to 5 are tried command by command."
 -- Assumes nothing.
-use Rattle.std.specs.Prelude.{ℕ, ◌≤◌, ◌≡◌, List, [], ◌∷◌, Bool, cond, ◌||◌, not, length, ltb, eqb}
+use Rattle.std.specs.Prelude.{ℕ, ◌≤◌, ◌≡◌, List, [], ◌∷◌, Bool, cond, ◌||◌, not, length, ltb, eqb, Result, Ok, Err}
 use Rattle.instruction.specs.Bytes.{cells_of}
 use Rattle.program.specs.Starts.{starts, first_refusal, excludes, last_opcode, jumps_among, jump_count, all_first_of}
 use Rattle.program.specs.Places.{is_start, Decodes, Places}
-use Rattle.program.specs.declared.Checked.{Checked}
-use Rattle.program.specs.declared.Checked.TheVariants.{Program, Refused}
-use Rattle.program.specs.declared.Walked.{Walked}
-use Rattle.program.specs.declared.Walked.TheVariants.{All, Bad}
+use Rattle.program.specs.Refusal.{refusal_number}
+use Rattle.program.specs.declared.Sizes.{Sizes}
+use Rattle.program.specs.declared.Survey.{Survey}
+use Rattle.program.specs.declared.refusal.Refusal.{Refusal}
 
 -- an answer in 01's terms: its number, 0 where the call is accepted, and its values; "A refusal is the number alone"
 pub record Answer : Type 0 where
   pub number : ℕ
   pub values : List ℕ
+
+-- what the check of a program gives: its sizes, or the number of a refusal
+pub data Checked : Type 0 where
+  Program : (cells instructions excludes : ℕ) → Checked
+  Refused : ℕ → Checked
+
+abbrev pub checked_of : Result Sizes Refusal → Checked
+checked_of (Ok s) = Program s.cells s.instructions s.excludes
+checked_of (Err r) = Refused (refusal_number r)
+
+-- what the walk over all instructions finds: their numbers, the last opcode and the number of targets, or the number of a refusal
+pub data Walked : Type 0 where
+  All : (instructions excludes last jumps : ℕ) → Walked
+  Bad : ℕ → Walked
+
+abbrev pub walked_of : (targets : ℕ) → Result Survey Refusal → Walked
+walked_of n (Ok w) = All w.instructions w.excludes w.last n
+walked_of n (Err r) = Bad (refusal_number r)
 
 -- "Check answers the numbers of cells, commands and EXCLUDEs"
 abbrev pub answer_of : Checked → Answer

@@ -7,8 +7,8 @@ use Rattle.instruction.specs.Table.{named, all_below, table_fits_of}
 use Rattle.program.specs.Starts.{starts, excludes, last_opcode, jumps_among}
 use Rattle.program.specs.Check.{Answer, answer_of, closes, check_of}
 use Rattle.program.specs.Places.{Places}
-use Rattle.program.specs.declared.Checked.{Checked}
-use Rattle.program.specs.declared.Checked.TheVariants.{Program, Refused}
+use Rattle.program.specs.Check.{Checked}
+use Rattle.program.specs.Check.{Program, Refused}
 
 -- of the instruction at o: 2 "unknown command byte", 3 "operands pass the end", 4 "a cell doesn't exist (base aside)",
 -- 5 "len 0, or table passes the last cell"

@@ -1,10 +1,10 @@
 -- What stands at an offset of a program: a start, the offset after a CHECKPOINT, an EXCLUDE and its number in order;
 -- and the table of it, a byte to an offset.
 -- Assumes nothing.
-use Rattle.std.specs.Prelude.{ℕ, ◌+◌, ◌-◌, ◌*◌, ◌/◌, ◌%◌, ◌≤◌, ◌≡◌, List, [], ◌∷◌, Bool, cond, ◌&&◌, not, length, get_or, ltb, eqb}
+use Rattle.std.specs.Prelude.{ℕ, ◌+◌, ◌-◌, ◌*◌, ◌/◌, ◌%◌, ◌≤◌, ◌≡◌, List, [], ◌∷◌, Bool, cond, ◌&&◌, not, length, get_or, ltb, eqb, Option, Some, None}
 use Rattle.instruction.specs.Bytes.{byte}
 use Rattle.program.specs.Starts.{starts, among, first_refusal, excludes}
-use Rattle.program.specs.declared.places.Place.{Place}
+use Rattle.program.specs.declared.places.Place as code
 
 -- the opcode of the instruction before offset t among those at os, k before the first
 unfoldable pub opcode_before : List ℕ → ℕ → List ℕ → ℕ → ℕ
@@ -59,8 +59,23 @@ after_here b = eqb (b % 2) 1
 abbrev pub exclude_here : ℕ → ℕ
 exclude_here b = b / 2 - 1
 
+-- what the table has of an offset
+pub record Place : Type 0 where
+  pub start : Bool
+  pub after : Bool
+  pub exclude : ℕ
+
 unfoldable pub read_place : ℕ → Place
 read_place b = record { start = start_here b; after = after_here b; exclude = exclude_here b }
+
+-- the number of an EXCLUDE and 1, 0 of none
+abbrev pub one_more : Option ℕ → ℕ
+one_more None = 0
+one_more (Some n) = n + 1
+
+-- what the code has of an offset, so
+abbrev pub numbered : code.Place → Place
+numbered q = record { start = q.start; after = q.after; exclude = one_more q.exclude }
 
 -- the table has an instruction at offset t
 abbrev pub placed : List ℕ → ℕ → Bool

@@ -8,53 +8,56 @@ ghost use Rattle.program.specs.Places.{placed};
 use crate::places::place_at;
 use instruction::Flow;
 
-// Places for the targets of any program.
-pub fn no_targets() -> [u16; 683]
-    ensures { length result ≡ 683 }
-{
-    [0u16; 683]
+// The targets noted, the first `count` of `offsets`.
+#[derive(Clone, Copy)]
+pub struct Targets {
+    pub offsets: [u16; 683],
+    pub count: usize,
 }
 
-// Stores one target behind the first n.
-fn put_target(noted: &mut [u16; 683], n: usize, t: u16) -> usize
-    requires { n < 683 }
-    ensures { (result ≡ n + 1) × (noted.new ≡ set noted.old n t) }
-{
-    noted[n] = t;
-    n + 1
-}
-
-// Notes where an instruction may jump behind the first n targets, and gives their number.
-pub fn note(noted: &mut [u16; 683], n: usize, flow: Flow) -> usize
-    requires { n < 683 }
-    ensures { (result ≡ n + length (targets flow)) × (noted.new ≡ note_of flow n noted.old) }
-{
-    match flow {
-        Flow::Halt => n,
-        Flow::Next => n,
-        Flow::Goto(t) => put_target(noted, n, t),
-        Flow::Branch(t) => put_target(noted, n, t),
-    }
-}
-
-// Whether a target is an instruction's offset.
-fn starts_at(table: &[u8; 2048], t: u16) -> bool
-    ensures { result ≡ placed table.now t }
-{
-    place_at(table, t as usize).start
-}
-
-// Whether the first n targets are instructions' offsets.
-pub fn all_start(table: &[u8; 2048], noted: &[u16; 683], n: usize) -> bool
-    requires { n ≤ 683 }
-    ensures { result ≡ all_first_of (placed table.now) n noted.now }
-{
-    let mut k: usize = 0;
-    while k < n {
-        if !starts_at(table, noted[k]) {
-            return false;
+impl Targets {
+    // Places for the targets of any program.
+    pub fn none() -> Targets
+        ensures count { result.count ≡ 0 }
+        ensures size { length result.offsets ≡ 683 }
+    {
+        Targets {
+            offsets: [0; 683],
+            count: 0,
         }
-        k += 1;
     }
-    true
+
+    fn push(&mut self, target: u16)
+        requires { self.old.count < 683 }
+        ensures count { self.new.count ≡ self.old.count + 1 }
+        ensures offsets { self.new.offsets ≡ set self.old.offsets self.old.count target }
+    {
+        self.offsets[self.count] = target;
+        self.count += 1;
+    }
+
+    // Notes where an instruction may jump.
+    pub fn note(&mut self, flow: Flow)
+        requires { self.old.count < 683 }
+        ensures count { self.new.count ≡ self.old.count + length (targets flow) }
+        ensures offsets { self.new.offsets ≡ note_of flow self.old.count self.old.offsets }
+    {
+        match flow {
+            Flow::Halt | Flow::Next => {}
+            Flow::Goto(target) | Flow::Branch(target) => self.push(target),
+        }
+    }
+
+    // Whether all of them are instructions' offsets.
+    pub fn all_start(&self, table: &[u8; 2048]) -> bool
+        requires { self.now.count ≤ 683 }
+        ensures { result ≡ all_first_of (placed table.now) self.now.count self.now.offsets }
+    {
+        for target in &self.offsets[..self.count] {
+            if !place_at(table, *target as usize).start {
+                return false;
+            }
+        }
+        true
+    }
 }

@@ -2,18 +2,18 @@
 // instruction starts there, whether a CHECKPOINT ends there, and which EXCLUDE stands there.
 // proofs/PlaceLaws.antt turns what a byte of the table says into facts of the program.
 ghost use Rattle.std.specs.Prelude.{◌≡◌, min};
-ghost use Rattle.program.specs.Places.{place_from_of, entry_at, Blank, read_place};
+ghost use Rattle.program.specs.Places.{place_from_of, entry_at, numbered, Blank, read_place};
 
 use crate::rules::same_byte;
 use instruction::opcodes::{CHECKPOINT, EXCLUDE};
 
 // What stands at an offset: whether an instruction starts there, whether it is the offset after a
-// CHECKPOINT, and of an EXCLUDE its number and 1, else 0.
-#[derive(Clone, Copy)]
+// CHECKPOINT, and which EXCLUDE it is, if it is one.
+#[derive(Clone, Copy, PartialEq, Eq)]
 pub struct Place {
     pub start: bool,
     pub after: bool,
-    pub exclude: u8,
+    pub exclude: Option<u8>,
 }
 
 // A table with no place in it.
@@ -47,25 +47,18 @@ pub(crate) fn place_from(before: u8, opcode: u8, number: u32) -> u8
 
 // What a byte of the table says.
 fn read_place(entry: u8) -> Place
-    ensures { result ≡ read_place entry }
+    ensures { numbered result ≡ read_place entry }
 {
-    let mut exclude = 0;
-    if 3 < entry {
-        exclude = entry / 2 - 1;
-    }
     Place {
         start: entry != 0,
         after: entry % 2 == 1,
-        exclude,
+        exclude: if entry < 4 { None } else { Some(entry / 2 - 2) },
     }
 }
 
 // What the table has of an offset; past the table's end no instruction starts.
 pub fn place_at(table: &[u8; 2048], t: usize) -> Place
-    ensures { result ≡ read_place (entry_at table.now t) }
+    ensures { numbered result ≡ read_place (entry_at table.now t) }
 {
-    if t < 2048 {
-        return read_place(table[t]);
-    }
-    read_place(0)
+    read_place(if t < 2048 { table[t] } else { 0 })
 }

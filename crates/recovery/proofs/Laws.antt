@@ -13,15 +13,15 @@ use Rattle.program.specs.Check.{check_of, number_of}
 use Rattle.program.proofs.Grounds.{plan-refuses}
 use Rattle.program.proofs.Tests.{bool_cases, clash}
 use Rattle.journal.specs.declared.Commit.{Commit}
-use Rattle.journal.specs.declared.Scanned.{Scanned}
-use Rattle.journal.specs.declared.Scanned.TheVariants.{BadLength, Damaged, Found}
+use Rattle.journal.specs.Scanned.{Scanned}
+use Rattle.journal.specs.Scanned.{BadLength, Damaged, Found}
 use Rattle.journal.specs.Reading.{Facts, facts_of, Rising, none, one, own_all}
 use Rattle.journal.specs.Answer.{Scans}
 use Rattle.journal.proofs.Fixed.{scan-fixed}
 use Rattle.journal.specs.Format.{Checkpoint, unowned, kind_of, format_for, chip_length}
 use Rattle.step.specs.State.{Env, Machine}
-use Rattle.recovery.specs.declared.Recovered.{Recovered}
-use Rattle.recovery.specs.declared.Recovered.TheVariants.{Restored, Refused}
+use Rattle.recovery.specs.Recover.{Recovered}
+use Rattle.recovery.specs.Recover.{Restored, Refused}
 use Rattle.recovery.specs.Recover.{refusal_of, Outcome, outcome, damaged_as_of, Older, recover_of, Recovers, refuses, reads, answer_of}
 
 -- the reading with marks that name no plan gives one number

@@ -1,6 +1,6 @@
 -- From what check and scan answer to what recovery leaves: the number of a refusal by its tests, the facts of the last commit, and the marks by the last EXCLUDE.
 -- Assumes nothing.
-use Prim.Native.Nat.{ℕ, ◌+◌, ◌-◌, ◌*◌, ◌≤◌, ◌<◌}
+use Prim.Native.Nat.{ℕ, ◌+◌, ◌*◌, ◌≤◌, ◌<◌}
 use mathlib.Core.Path.{◌≡◌, refl, sym, ap, subst}
 use mathlib.Core.Bool.{Bool, true, false}
 use mathlib.Core.List.{List, [], ◌∷◌}
@@ -11,12 +11,12 @@ use borrow.Author.Tests.{lt-ltb, le-ltb, eq-eqb, ne_eqb}
 use Rattle.instruction.specs.Bytes.{byte}
 use Rattle.program.specs.Grounds.{Checks}
 use Rattle.program.specs.Places.{Places, is_exclude, exclude_number}
-use Rattle.program.specs.declared.Checked.TheVariants as checked
+use Rattle.program.specs.Check as checked
 use Rattle.program.proofs.Grounds.{accepted-values}
 use Rattle.marks.specs.Marks.{recovered_marks}
 use Rattle.journal.specs.declared.Commit.{Commit}
-use Rattle.journal.specs.declared.Scanned.{Scanned}
-use Rattle.journal.specs.declared.Scanned.TheVariants.{BadLength, Damaged, Found}
+use Rattle.journal.specs.Scanned.{Scanned}
+use Rattle.journal.specs.Scanned.{BadLength, Damaged, Found}
 use Rattle.journal.specs.Format.{Checkpoint, unowned, format_for, chip_length}
 use Rattle.journal.specs.Reading.{Facts, facts_of, first, last_of, Rising, none, one}
 use Rattle.journal.specs.Answer.{facts_in, Taken, Scans}
@@ -25,7 +25,7 @@ use Rattle.journal.proofs.Fixed.{facts-same, within}
 use Rattle.step.specs.declared.Regs.{Regs}
 use Rattle.step.specs.State.{env_of, Machine, machine_of}
 use Rattle.step.specs.Ready.{Legal, Ready}
-use Rattle.recovery.specs.declared.Recovered.TheVariants.{Restored, Refused}
+use Rattle.recovery.specs.Recover.{Restored, Refused}
 use Rattle.recovery.specs.Recover.{refusal_of, regs_of, included, marks_by_of, outcome, Older, recover_of, Recovers, refuses, reads}
 
 -- ---- the marks
@@ -41,10 +41,10 @@ module _ (p ws : List ℕ) (x : ℕ) where
   marks-none z = rw (eq-eqb x 0 z)
 
   -- by the words of its number
-  pub marks-some : ¬ (x ≡ 0) → {n b : ℕ} {ms : List ℕ} → n ≡ exclude_number p x + 1 → b ≡ byte p 0 → ms ≡ recovered_marks ws (8 * (n - 1)) (b + 1) (replicate 256 0)
+  pub marks-some : ¬ (x ≡ 0) → {n b : ℕ} {ms : List ℕ} → n ≡ exclude_number p x → b ≡ byte p 0 → ms ≡ recovered_marks ws (8 * n) (b + 1) (replicate 256 0)
       → ms ≡ marks_by_of (env_of p ws) x
   unfolding marks_by_of included
-  marks-some z {n} k e h = let j : n - 1 ≡ exclude_number p x = omega arith in rw (ne_eqb x 0 z) (rw (j, e) at h)
+  marks-some z {n} k e h = rw (ne_eqb x 0 z) (rw (k, e) at h)
 
 -- ---- the last commit
 

@@ -13,8 +13,8 @@ use Rattle.program.specs.Grounds.{Allowed, granted, denied}
 use Rattle.program.proofs.Grounds.{plan-passes, plan-refuses, by-check, by-words, by-own}
 use Rattle.program.proofs.Tests.{bool_cases, clash}
 use Rattle.journal.specs.declared.Commit.{Commit}
-use Rattle.journal.specs.declared.Scanned.{Scanned}
-use Rattle.journal.specs.declared.Scanned.TheVariants as scanned
+use Rattle.journal.specs.Scanned.{Scanned}
+use Rattle.journal.specs.Scanned as scanned
 use Rattle.journal.specs.Format.{chip_length, unowned, format_for}
 use Rattle.journal.specs.Reading as journal
 use Rattle.journal.specs.Reading.{Facts, facts_of, own_all}

@@ -1,22 +1,23 @@
 -- Recovery: document 01, "Recovery reads saves from byte 0." What the journal holds is crate `journal`'s; here is the state that is made of it.
 -- Assumes nothing.
-use Rattle.std.specs.Prelude.{ℕ, ◌*◌, ◌<◌, ◌≡◌, Bool, false, cond, List, [], length, replicate, eqb, ltb}
+use Rattle.std.specs.Prelude.{ℕ, ◌*◌, ◌<◌, ◌≡◌, Bool, false, cond, List, [], length, replicate, eqb, ltb, Result, Ok, Err}
 use Rattle.instruction.specs.Bytes.{cells_of}
 use Rattle.program.specs.Check.{Answer, check_of, number_of}
 use Rattle.program.specs.Grounds.{Allowed, CallGround}
 use Rattle.program.specs.Places.{exclude_number}
 use Rattle.marks.specs.Marks.{recovered_marks}
 use Rattle.journal.specs.declared.Commit.{Commit}
-use Rattle.journal.specs.declared.Scanned.{Scanned}
-use Rattle.journal.specs.declared.Scanned.TheVariants.{BadLength, Damaged, Found}
+use Rattle.journal.specs.Scanned.{Scanned}
+use Rattle.journal.specs.Scanned.{BadLength, Damaged, Found}
 use Rattle.journal.specs.Format.{Checkpoint, chip_length, unowned, format_for}
 use Rattle.journal.specs.Reading as journal
 use Rattle.journal.specs.Reading.{Facts, facts_of, first, last_of, Reading, Torn, own_all}
 use Rattle.journal.specs.Answer.{Taken, Scans}
 use Rattle.step.specs.declared.Regs.{Regs}
+use Rattle.step.specs.declared.State.{State}
 use Rattle.step.specs.State.{Env, Machine, machine_of}
-use Rattle.recovery.specs.declared.Recovered.{Recovered}
-use Rattle.recovery.specs.declared.Recovered.TheVariants.{Restored, Refused}
+use Rattle.program.specs.Refusal.{refusal_number}
+use Rattle.program.specs.declared.refusal.Refusal.{Refusal}
 
 -- "Rising order": 1 to 8 of the plan, 9 the words; 0 where none of them stands, and the chip is read. "Recovery overwrites the lent state, of which it tests
 -- only the length": a state here has its length, so there is no 10
@@ -51,6 +52,11 @@ marks_by_of e x =
     cond (eqb x 0) included
     (recovered_marks e.sets (8 * exclude_number e.program x) (cells_of e.program) included)
 
+-- what recovery gives: the state is restored, or the number of a refusal
+pub data Recovered : Type 0 where
+  Restored : Recovered
+  Refused : ℕ → Recovered
+
 -- what a call leaves: the answer, and the state with the journal
 pub record Outcome : Type 0 where
   pub answer : Recovered
@@ -58,6 +64,11 @@ pub record Outcome : Type 0 where
 
 abbrev pub outcome : Recovered → Machine → Outcome
 outcome a m = record { answer = a; machine = m }
+
+-- what the code's answer leaves of the machine m: a refusal "alters nothing lent", and recovery "stores nothing on the chip"
+abbrev pub recovered : Machine → Result State Refusal → Outcome
+recovered m (Ok s) = outcome Restored (machine_of s.regs s.cells s.marks m.journal)
+recovered m (Err r) = outcome (Refused (refusal_number r)) m
 
 -- the number of a chip that is damaged as one whose marks name the owner, by its reading with marks that name no plan: "15 where every mark is `A2`", of which one is whole,
 -- else 12, since "a chip with both marks is damaged" and "a chip whose only mark is a torn `A2` is damaged for recovery"

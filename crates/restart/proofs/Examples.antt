@@ -15,7 +15,7 @@ use lib.ListN.{length, get_or, take, drop, replicate, length-replicate}
 use lib.Dec.{ltb}
 use borrow.Author.Tests.{ltb-true}
 use Rattle.program.specs.Check.{check_of}
-use Rattle.program.specs.declared.Checked.TheVariants.{Program}
+use Rattle.program.specs.Check.{Program}
 use Rattle.program.proofs.Tests.{and_both}
 use Rattle.execution.specs.Effects.{ended}
 use Rattle.analysis.proofs.Certificates.{all_of}
@@ -28,9 +28,9 @@ use Rattle.journal.proofs.Torn.{Trimmed, trimmed-nil, trimmed-snoc}
 use Rattle.journal.proofs.Back.{erased-shape}
 use Rattle.step.specs.State.{env_of, Machine, machine_of}
 use Rattle.run.specs.Run.{call_of}
-use Rattle.run.specs.declared.Ended.TheVariants.{Stopped, NoReading, BufferFull}
+use Rattle.run.specs.Run.{Stopped, NoReading, BufferFull}
 use Rattle.recovery.specs.Recover.{outcome}
-use Rattle.recovery.specs.declared.Recovered.TheVariants.{Restored}
+use Rattle.recovery.specs.Recover.{Restored}
 use Rattle.restart.specs.Reference.{zeros, Numbered, ref_at, emitted}
 use Rattle.restart.specs.History.{Tally, set_back, System, unused, restored, crashed, Lent, given, refused_run, Request, outcome_of, ran, History, begins, recovers, runs, crashed_run}
 use Rattle.restart.specs.Claim.{Plan, Found, distinct, Claim, Chain, one, more, beside_run, Erased}

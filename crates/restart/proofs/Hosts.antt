@@ -10,7 +10,7 @@ use native.Mathlib.Omega.{arith}
 use lib.IntN.{ℤ, pos}
 use lib.ListN.{length, take, drop, replicate, length-take, length-drop, length-replicate}
 use Rattle.cellset.proofs.Bits.{le-or-lt}
-use Rattle.run.specs.declared.Ended.TheVariants.{Stopped}
+use Rattle.run.specs.Run.{Stopped}
 use Rattle.restart.specs.Reference.{zeros, ref_at}
 use Rattle.restart.specs.History.{System, Request, outcome_of, ran, History}
 use Rattle.restart.specs.Claim.{Plan, Found, Suffices, Chain, one, more, Erased, Names}

@@ -11,7 +11,7 @@ use lib.ListN.{length, get_or, replicate, length-append, length-replicate}
 use lib.Dec.{eqb}
 use borrow.Author.Tests.{eqb-true, eqb-false}
 use Rattle.program.proofs.Tests.{bool_cases, clash}
-use Rattle.journal.specs.declared.Scanned.TheVariants.{BadLength, Damaged, Found}
+use Rattle.journal.specs.Scanned.{BadLength, Damaged, Found}
 use Rattle.journal.specs.Format.{Checkpoint, format_for, filled_of, chip_length, images}
 use Rattle.journal.specs.Reading.{Facts, facts_of, first, last_of, own_all, saved_value}
 use Rattle.journal.specs.Answer.{Taken}
@@ -21,7 +21,7 @@ use Rattle.journal.proofs.Back.{one-reading, shape-whole, shape-reads, read-shap
 use Rattle.step.specs.State.{Env, Machine, machine_of}
 use Rattle.recovery.specs.Recover as recovery
 use Rattle.recovery.specs.Recover.{regs_of, marks_by_of, Outcome, outcome, recover_of, Recovers, refuses, reads}
-use Rattle.recovery.specs.declared.Recovered.TheVariants.{Restored, Refused}
+use Rattle.recovery.specs.Recover.{Restored, Refused}
 use Rattle.restart.proofs.Lists.{zeros-at}
 use Rattle.step.proofs.Tables.{tabulated, tabulated-length, tabulated-at}
 

@@ -18,8 +18,8 @@ use Rattle.program.proofs.Tests.{bool_cases}
 use Rattle.step.specs.State.{Env, Machine}
 use Rattle.step.specs.Step.{due_opcode_of, given_of}
 use Rattle.run.specs.Run.{Call, stepped, Outcome}
-use Rattle.run.specs.declared.Ended.{Ended}
-use Rattle.run.specs.declared.Ended.TheVariants.{Stopped, Spent}
+use Rattle.run.specs.Run.{Ended}
+use Rattle.run.specs.Run.{Stopped, Spent}
 use Rattle.run.proofs.Laws.{Exits, stopped, spent, no_reading, buffer_full, taken-one, given-one}
 use Rattle.restart.proofs.Traces as traces
 use Rattle.restart.proofs.Traces.{Trace}

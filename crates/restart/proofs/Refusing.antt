@@ -11,11 +11,10 @@ use lib.Dec.{eqb}
 use Rattle.program.proofs.Tests.{bool_cases}
 use Rattle.step.specs.State.{Env, Machine}
 use Rattle.run.specs.Run.{Call, started, refusal_of, refused_with, call_of}
-use Rattle.run.specs.declared.Ended.{Ended}
+use Rattle.run.specs.Run.{Ended}
 use Rattle.run.proofs.Laws.{Exits, stopped, spent, no_reading, buffer_full, run-exit}
 use Rattle.recovery.specs.Recover as recovery
 use Rattle.recovery.specs.Recover.{Recovers}
-use Rattle.recovery.specs.declared.Recovered.TheVariants as recovered
 use Rattle.recovery.proofs.Laws.{refusal-alters-nothing}
 use Rattle.restart.specs.Reference.{numbered_from}
 use Rattle.restart.specs.History.{System, Lent, given, back, refused, refused_run, Accepted}
@@ -50,7 +49,7 @@ refused-with e ρ budget m outs h =
     (λ b. rw b)
 
 -- A REFUSED RECOVERY
-pub recovery-refused : (s : System) (e : Env) (other whose : ℕ) (l : Lent) (r : recovery.Outcome) → Recovers e other whose (given l s.machine) r → ¬ (r.answer ≡ recovered.Restored)
+pub recovery-refused : (s : System) (e : Env) (other whose : ℕ) (l : Lent) (r : recovery.Outcome) → Recovers e other whose (given l s.machine) r → ¬ (r.answer ≡ recovery.Restored)
     → refused s l r ≡ s
 recovery-refused s e other whose l r x z =
     let m : back l s.machine r.machine ≡ s.machine =

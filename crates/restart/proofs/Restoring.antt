@@ -17,7 +17,7 @@ use Rattle.program.proofs.Tests.{bool_cases, clash}
 use Rattle.marks.specs.Marks.{recovered_marks}
 use Rattle.marks.proofs.Laws.{recovered-out, recovered-length, recovered-small}
 use Rattle.journal.specs.declared.Commit.{Commit}
-use Rattle.journal.specs.declared.Scanned.TheVariants.{BadLength, Damaged, Found}
+use Rattle.journal.specs.Scanned.{BadLength, Damaged, Found}
 use Rattle.journal.specs.Format.{Checkpoint, format_for, filled_of, chip_length, images}
 use Rattle.journal.specs.Reading.{Facts, facts_of, first, Rising, last_of, own_all, saved_value}
 use Rattle.journal.specs.Shape.{Shape}
@@ -30,7 +30,7 @@ use Rattle.step.specs.Ready.{Good}
 use Rattle.step.proofs.Facts.{facts-sound, zero-from, marks-from}
 use Rattle.recovery.specs.Recover as recovery
 use Rattle.recovery.specs.Recover.{included, marks_by_of, Outcome, recover_of, Recovers}
-use Rattle.recovery.specs.declared.Recovered.TheVariants.{Restored, Refused}
+use Rattle.recovery.specs.Recover.{Restored, Refused}
 use Rattle.recovery.proofs.Laws.{restored-apart, restored-size}
 use Rattle.restart.specs.Reference.{Frame, ref_at}
 use Rattle.restart.specs.History.{Tally, set_back}

@@ -23,11 +23,11 @@ use Rattle.journal.specs.Reading.{facts_of, first, own_all}
 use Rattle.journal.specs.Shape.{Shape}
 use Rattle.step.specs.State.{Env, Machine, machine_of, checkpoint_at}
 use Rattle.run.specs.Run as run
-use Rattle.run.specs.declared.Ended.{Ended}
-use Rattle.run.specs.declared.Ended.TheVariants.{NoReading, Spent}
+use Rattle.run.specs.Run.{Ended}
+use Rattle.run.specs.Run.{NoReading, Spent}
 use Rattle.recovery.specs.Recover as recovery
 use Rattle.recovery.specs.Recover.{regs_of, Outcome, outcome}
-use Rattle.recovery.specs.declared.Recovered.TheVariants.{Restored, Refused}
+use Rattle.recovery.specs.Recover.{Restored, Refused}
 use Rattle.restart.specs.Reference.{zeros, numbered_from, stays, ref_at, emitted}
 use Rattle.restart.specs.History.{wrote}
 use Rattle.restart.specs.Rows.{Trial, env_in, ran_from, AfterRecovery, AfterRun, Row, set_is, outputs_are, chip_begins, chip_is, cut_after, chip_refused, mark_becomes, effect_is_of, Holds, Hold, rows}

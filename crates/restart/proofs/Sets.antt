@@ -11,11 +11,11 @@ use borrow.Author.Tests.{ltb-false}
 use Rattle.instruction.specs.Bytes.{cells_of}
 use Rattle.instruction.specs.declared.Instruction.{Instruction}
 use Rattle.program.specs.Check.{check_of}
-use Rattle.program.specs.declared.Checked.{Checked}
-use Rattle.program.specs.declared.Checked.TheVariants as checked
+use Rattle.program.specs.Check.{Checked}
+use Rattle.program.specs.Check as checked
 use Rattle.program.proofs.Tests.{or-none}
 use Rattle.analysis.specs.Analyse.{too_short, analysed_from, analyse_of, ExcludeSetsBy, ExcludeSets}
-use Rattle.analysis.specs.declared.Analysed.TheVariants.{Sets}
+use Rattle.analysis.specs.Analyse.{Sets}
 use Rattle.analysis.proofs.Safety.{Within, de-safe, ro-safe}
 use Rattle.restart.specs.Claim.{Plan, Safe, Found}
 

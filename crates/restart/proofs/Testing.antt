@@ -11,8 +11,8 @@ use lib.Dec.{eqb}
 use borrow.Author.Tests.{eqb-true}
 use Rattle.program.proofs.Tests.{clash, and_both}
 use Rattle.execution.specs.Effects.{Effect, stops, on, goes, writes, takes, gives, sets, saves}
-use Rattle.run.specs.declared.Ended.{Ended}
-use Rattle.run.specs.declared.Ended.TheVariants.{Refused, Stopped, Spent, NoReading, BufferFull}
+use Rattle.run.specs.Run.{Ended}
+use Rattle.run.specs.Run.{Refused, Stopped, Spent, NoReading, BufferFull}
 use Rattle.restart.specs.Reference.{Numbered}
 use Rattle.restart.specs.Claim.{same_value}
 

@@ -16,7 +16,6 @@ use Rattle.step.specs.State.{env_of, Machine}
 use Rattle.run.specs.Run.{Outcome}
 use Rattle.recovery.specs.Recover as recovery
 use Rattle.recovery.specs.Recover.{Recovers}
-use Rattle.recovery.specs.declared.Recovered.TheVariants as recovered
 use Rattle.recovery.proofs.Laws.{restored-kind}
 use Rattle.restart.specs.Reference.{Frame, Numbered, numbered_from, ref_at, emitted, taken}
 use Rattle.restart.specs.History.{System, unused, restored, crashed, Request, wrote, lent, outcome_of, tally_after, ran}
@@ -139,7 +138,7 @@ module _ (p : List ℕ) (ρ : List ℤ) (f₀ : Frame) (plan : Plan p) (page own
   -- ---- an accepted recovery
 
   pub upheld-restored : (s : System) → L s → (words : List ℕ) → Safe p words → (r : recovery.Outcome) → Recovers (env_of p words) page owner s.machine r
-      → r.answer ≡ recovered.Restored → U (restored s r)
+      → r.answer ≡ recovery.Restored → U (restored s r)
   upheld-restored s h words safe r x a =
       let i = restored-inv p words plan safe page owner s.machine h.saves h.torn h.shape h.owned ρ f₀ n s.tally h.resumes h.high h.size r x a in
       upheld-by (restored s r) i (restored-kind (env_of p words) page owner s.machine r x a) h.since h.outputs (λ j z. omega (arith, runs-before p ρ f₀ s.tally.committed j h.resumes.runs z))

@@ -9,7 +9,7 @@ use Rattle.cellset.specs.Bits.{member}
 use Rattle.execution.specs.Effects.{count_full}
 use Rattle.analysis.specs.Paths.{Live, Dead, Region}
 use Rattle.analysis.specs.Analyse.{Analyses}
-use Rattle.analysis.specs.declared.Analysed.TheVariants.{Sets}
+use Rattle.analysis.specs.Analyse.{Sets}
 use Rattle.journal.specs.Format.{Checkpoint, unowned, owner_of_plan, format_for, chip_length}
 use Rattle.journal.specs.Reading.{first, facts_of, last_of, own_all, saved_value}
 use Rattle.journal.specs.Shape.{Shape}
@@ -17,11 +17,10 @@ use Rattle.step.specs.declared.Regs.{Regs}
 use Rattle.step.specs.State.{Env, env_of, Machine}
 use Rattle.run.specs.Run.{refusal_of, call_of}
 use Rattle.step.specs.Ready.{Legal}
-use Rattle.run.specs.declared.Ended.{Ended}
-use Rattle.run.specs.declared.Ended.TheVariants.{Stopped, Spent}
+use Rattle.run.specs.Run.{Ended}
+use Rattle.run.specs.Run.{Stopped, Spent}
 use Rattle.recovery.specs.Recover as recovery
 use Rattle.recovery.specs.Recover.{Recovers}
-use Rattle.recovery.specs.declared.Recovered.TheVariants as recovered
 use Rattle.restart.specs.Reference.{Frame, zeros, frame_of, Numbered, numbered_from, ref_at, emitted, taken}
 use Rattle.restart.specs.History.{System, Lent, given, refused, refused_run, Request, Accepted, wrote, lent, outcome_of, tally_after, ran, History}
 
@@ -114,7 +113,7 @@ module _ (p : List ℕ) (ρ : List ℤ) (f₀ : Frame) (n t₀ : ℕ) (Words : L
     more : {i : ℕ} {x : Ended} {s' : System} → Chain k s i x s' → (r : Request) (j : ℕ) → Suffices k s' r j
         → Chain k s (i + j) (outcome_of p ρ s'.machine r).ended (ran p ρ s' r)
     beside_recovery : {i : ℕ} {x : Ended} {s' : System} → Chain k s i x s' → (e : Env) (other whose : ℕ) (l : Lent) (r : recovery.Outcome)
-        → Recovers e other whose (given l s'.machine) r → ¬ (r.answer ≡ recovered.Restored) → Chain k s i x (refused s' l r)
+        → Recovers e other whose (given l s'.machine) r → ¬ (r.answer ≡ recovery.Restored) → Chain k s i x (refused s' l r)
     beside_run : {i : ℕ} {x : Ended} {s' : System} → Chain k s i x s' → (e : Env) (l : Lent) (ρ' : List ℤ) (budget : ℕ) (outs : List ℤ)
         → ¬ Accepted (call_of e ρ' budget (given l s'.machine) outs).ended
         → Chain k s i x (refused_run s' l (call_of e ρ' budget (given l s'.machine) outs))
@@ -143,10 +142,10 @@ module _ (p : List ℕ) (ρ : List ℤ) (f₀ : Frame) (n t₀ : ℕ) (Words : L
     pub recoverable : chip_length page n ≡ true → (words : List ℕ) → Words words → (m : Machine) → m.journal ≡ s.machine.journal
         → (r : recovery.Outcome) × Recovers (env_of p words) page owner m r
     pub taken_up : chip_length page n ≡ true → (words : List ℕ) → Words words → (m : Machine) → m.journal ≡ s.machine.journal
-        → (r : recovery.Outcome) → Recovers (env_of p words) page owner m r → r.answer ≡ recovered.Restored
+        → (r : recovery.Outcome) → Recovers (env_of p words) page owner m r → r.answer ≡ recovery.Restored
     -- of what kind ever, it gives no number from 12 on: "A restart is promised, never 15 or 16, for a chip without `A2` marks and the very plan that wrote it"
     pub not_damaged : (words : List ℕ) → Words words → (m : Machine) → m.journal ≡ s.machine.journal
-        → (r : recovery.Outcome) → Recovers (env_of p words) page owner m r → (k : ℕ) → 12 ≤ k → ¬ (r.answer ≡ recovered.Refused k)
+        → (r : recovery.Outcome) → Recovers (env_of p words) page owner m r → (k : ℕ) → 12 ≤ k → ¬ (r.answer ≡ recovery.Refused k)
     -- "and a run never gives 10 on a state that an accepted call left and no cut has since spoiled": it is never refused
     pub accepted : s.good ≡ true → (words : List ℕ) → Words words → refusal_of (env_of p words) s.machine ≡ 0
     -- "If the uncut run stops after n commands, at most n plus twice the chip's length steps follow an accepted recovery before the next"

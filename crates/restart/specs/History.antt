@@ -4,11 +4,10 @@ use Rattle.std.specs.Prelude.{ℕ, zero, suc, ◌+◌, ◌-◌, max, ◌≡◌, 
 use Rattle.instruction.specs.Bytes.{byte}
 use Rattle.step.specs.State.{Env, env_of, Machine, machine_of, size_at, fits_at}
 use Rattle.run.specs.Run.{Call, started, stepped, Outcome, call_of}
-use Rattle.run.specs.declared.Ended.{Ended}
-use Rattle.run.specs.declared.Ended.TheVariants as ended
+use Rattle.run.specs.Run.{Ended}
+use Rattle.run.specs.Run as ended
 use Rattle.recovery.specs.Recover as recovery
 use Rattle.recovery.specs.Recover.{Recovers}
-use Rattle.recovery.specs.declared.Recovered.TheVariants as recovered
 use Rattle.restart.specs.Reference.{Numbered, numbered_from}
 
 -- ---- the tally
@@ -182,13 +181,13 @@ module _ (p : List ℕ) (ρ : List ℤ) where
       -- a refused call: its arguments are any, of any kind of chip, and the definition refuses them. A run of another kind on the list's state is one that is lent a state with its
       -- numbers and another page or owner
       refused_recovery : {s : System} → History s → (e : Env) (other whose : ℕ) (l : Lent) (r : recovery.Outcome) → Recovers e other whose (given l s.machine) r
-          → ¬ (r.answer ≡ recovered.Restored) → History (refused s l r)
+          → ¬ (r.answer ≡ recovery.Restored) → History (refused s l r)
       refused_run_of : {s : System} → History s → (e : Env) (l : Lent) (ρ' : List ℤ) (budget : ℕ) (outs : List ℤ)
           → ¬ Accepted (call_of e ρ' budget (given l s.machine) outs).ended
           → History (refused_run s l (call_of e ρ' budget (given l s.machine) outs))
       -- an accepted recovery, on any state
       recovers : {s : System} → History s → (words : List ℕ) → Words words → (r : recovery.Outcome) → Recovers (env_of p words) page owner s.machine r
-          → r.answer ≡ recovered.Restored → History (restored s r)
+          → r.answer ≡ recovery.Restored → History (restored s r)
       -- "A cut falls between two steps, in a recovery call too"
       crashes : {s : System} → History s → (m : Machine) → History (crashed s m)
       -- an accepted run: "The first of them, and the first after each cut, is a recovery", so the state is good

@@ -14,11 +14,11 @@ use Rattle.marks.specs.Marks.{excluded}
 use Rattle.journal.specs.Format.{unowned, owner_of_plan}
 use Rattle.step.specs.State.{Env, env_of, Machine}
 use Rattle.run.specs.Run.{Outcome, call_of}
-use Rattle.run.specs.declared.Ended.{Ended}
-use Rattle.run.specs.declared.Ended.TheVariants.{NoReading, Spent}
+use Rattle.run.specs.Run.{Ended}
+use Rattle.run.specs.Run.{NoReading, Spent}
 use Rattle.recovery.specs.Recover as recovery
 use Rattle.recovery.specs.Recover.{Recovers}
-use Rattle.recovery.specs.declared.Recovered.TheVariants.{Restored, Refused}
+use Rattle.recovery.specs.Recover.{Restored, Refused}
 use Rattle.restart.specs.Reference.{zeros, numbered_from, emitted}
 use Rattle.restart.specs.History.{wrote}
 

@@ -11,18 +11,18 @@ use lib.ListN.{length, get_or}
 use borrow.Author.Tests.{eqb-true, eqb-false, eq-eqb, ne_eqb}
 use Rattle.program.specs.Check.{check_of, number_of}
 use Rattle.program.proofs.Tests.{bool_cases}
-use Rattle.journal.specs.declared.Scanned.{Scanned}
-use Rattle.journal.specs.declared.Scanned.TheVariants.{BadLength, Damaged, Found}
+use Rattle.journal.specs.Scanned.{Scanned}
+use Rattle.journal.specs.Scanned.{BadLength, Damaged, Found}
 use Rattle.journal.specs.Reading.{Facts}
 use Rattle.step.specs.State.{Env, Machine}
 use Rattle.run.specs.Run.{started, refusal_of, call_of, answer_of}
 use Rattle.run.proofs.Laws.{steps-within}
-use Rattle.run.specs.declared.Ended.{Ended}
-use Rattle.run.specs.declared.Ended.TheVariants as ended
+use Rattle.run.specs.Run.{Ended}
+use Rattle.run.specs.Run as ended
 use Rattle.recovery.specs.Recover as recovery
 use Rattle.recovery.specs.Recover.{damaged_as_of, Older, recover_of, Recovers, refuses, reads}
-use Rattle.recovery.specs.declared.Recovered.{Recovered}
-use Rattle.recovery.specs.declared.Recovered.TheVariants.{Restored, Refused}
+use Rattle.recovery.specs.Recover.{Recovered}
+use Rattle.recovery.specs.Recover.{Restored, Refused}
 use Rattle.layout.specs.Layout.{state_size}
 use Rattle.pitskelo.specs.Runs.{odd_state_of, RunLent, ran_on, run_number, run_done, run_refused, run_call_of, RecoverCall}
 use Rattle.pitskelo.proofs.OddStates.{odd_refused}

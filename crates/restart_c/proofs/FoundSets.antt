@@ -13,8 +13,8 @@ use Rattle.program.specs.Places.{is_exclude, exclude_number}
 use Rattle.program.proofs.Accepted.{accepted}
 use Rattle.program.proofs.AfterLaws.{exclude-below}
 use Rattle.analysis.specs.Analyse.{too_short, analyse_of, answer_of, Analyses}
-use Rattle.analysis.specs.declared.Analysed.{Analysed}
-use Rattle.analysis.specs.declared.Analysed.TheVariants.{Sets, Refused}
+use Rattle.analysis.specs.Analyse.{Analysed}
+use Rattle.analysis.specs.Analyse.{Sets, Refused}
 use Rattle.layout.specs.Numbers.{numbers_from}
 use Rattle.layout.proofs.Numbering.{numbers-length, numbers-split}
 use Rattle.pitskelo.specs.Calls.{words_of}

@@ -16,8 +16,8 @@ use Rattle.journal.specs.Format.{owner_of_plan}
 use Rattle.journal.proofs.Naming.{owner-small}
 use Rattle.step.specs.State.{env_of, Machine}
 use Rattle.run.specs.Run.{Outcome, started, call_of, answer_of}
-use Rattle.run.specs.declared.Ended.{Ended}
-use Rattle.run.specs.declared.Ended.TheVariants.{Stopped, Spent}
+use Rattle.run.specs.Run.{Ended}
+use Rattle.run.specs.Run.{Stopped, Spent}
 use Rattle.recovery.proofs.Laws.{journal-stays}
 use Rattle.layout.specs.Numbers.{signed_of}
 use Rattle.layout.specs.Layout.{state_size, machine_in, bytes_of_state, regs_in}
@@ -25,7 +25,7 @@ use Rattle.layout.proofs.Laws.{state-length}
 use Rattle.program.specs.Check.{number_of}
 use Rattle.program.proofs.Tests.{bool_cases, clash}
 use Rattle.recovery.specs.Recover as recovery
-use Rattle.recovery.specs.declared.Recovered.{Recovered}
+use Rattle.recovery.specs.Recover.{Recovered}
 use Rattle.restart.proofs.Invariant.{Inv}
 use Rattle.pitskelo.specs.Runs.{sets_in, RunLent, RunLeft, ran_on, run_done, run_call_of, RecoverCall}
 use Rattle.restart.specs.Reference.{Frame, numbered_from, zeros, ref_at, emitted, taken}

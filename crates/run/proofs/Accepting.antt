@@ -11,8 +11,8 @@ use lib.ListN.{length, take}
 use lib.Seq.{sets, sets-eq, take_at}
 use Rattle.program.specs.Check.{answer_of, check_of, number_of}
 use Rattle.program.specs.Grounds.{Ruled}
-use Rattle.program.specs.declared.Checked.{Checked}
-use Rattle.program.specs.declared.Checked.TheVariants as checked
+use Rattle.program.specs.Check.{Checked}
+use Rattle.program.specs.Check as checked
 use Rattle.program.proofs.Grounds.{ruled, accepted-values}
 use Rattle.program.proofs.Tests.{bool_cases}
 use Rattle.journal.proofs.Paging.{is-chip-length}

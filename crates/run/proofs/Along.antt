@@ -4,7 +4,7 @@ use mathlib.Core.Path.{◌≡◌, refl, sym, ◌∙◌, ap, subst}
 use mathlib.Core.Bool.{false, ◌&&◌}
 use mathlib.Core.List.{List, [], ◌++◌, append-nil}
 use mathlib.Core.Logic.{◌≢◌}
-use mathlib.Core.Option.{none}
+use Rattle.std.proofs.Common.{None}
 use Prim.Native.Nat.{ℕ, suc, ◌+◌, ◌-◌, ◌≤◌, ◌<◌}
 use native.Mathlib.Omega.{arith}
 use lib.Dec.{eqb}
@@ -27,14 +27,14 @@ use Rattle.run.specs.Quiet.{flowed, Base, regs_at, call_in, Idle, Along}
 use Rattle.step.proofs.Keeping.{good-step}
 
 -- ---- a run and its next step
-pub run_step : (e : Env) (ρ : List ℤ) (room left : ℕ) (c : Call) → exit_before_of e.program (suc left) (length ρ) room c ≡ none
+pub run_step : (e : Env) (ρ : List ℤ) (room left : ℕ) (c : Call) → exit_before_of e.program (suc left) (length ρ) room c ≡ None
     → run_of e ρ room (suc left) c ≡ run_of e ρ room left (stepped e ρ c)
 unfolding run_of
 run_step e ρ room left c h = rw h
 
 -- there is no exit, while budget is left, where the machine is not stopped and a READ has a reading, an EMIT a place
 open-before : (p : List ℕ) (left n room : ℕ) (c : Call) {k : ℕ} → c.machine.regs.stop ≡ 0 → due_opcode_of p c.machine ≡ k
-    → (eqb k 7 && eqb c.taken n) ≡ false → (eqb k 8 && eqb (length c.given) room) ≡ false → exit_before_of p (suc left) n room c ≡ none
+    → (eqb k 7 && eqb c.taken n) ≡ false → (eqb k 8 && eqb (length c.given) room) ≡ false → exit_before_of p (suc left) n room c ≡ None
 unfolding exit_before_of
 open-before p left n room c s d t g = rw (ne_eqb (suc left) 0 (λ z. omega arith), d, t, g, s)
 
@@ -103,7 +103,7 @@ along-trans r s = record { same = s.same ∙ r.same; good = λ g. s.good (r.good
 -- one step that is the run's
 pub along-step : {b : Base} {table : List ℕ} {first left : ℕ} {f f' : Flow} {xs xs' : List ℕ} {outs outs' : List ℤ} → Ready b.env table → b.regs.stop ≡ 0
     → f.steps < left → f'.steps ≡ f.steps + 1
-    → ((k : ℕ) → exit_before_of b.env.program (suc k) (length b.readings) b.room (call_in b first f xs outs) ≡ none)
+    → ((k : ℕ) → exit_before_of b.env.program (suc k) (length b.readings) b.room (call_in b first f xs outs) ≡ None)
     → stepped b.env b.readings (call_in b first f xs outs) ≡ call_in b first f' xs' outs'
     → Along b b.env.program first left f xs outs f' xs' outs'
 unfolding stepped
@@ -143,7 +143,7 @@ module _ {b : Base} {readings : List ℤ} {first takes gives : ℕ} (i : Idle b 
   -- no exit comes before it, if a READ has a reading and an EMIT a place
   none_before : (eqb (byte b.env.program f.pc) 7 && eqb (b.taken + f.taken) (length b.readings)) ≡ false
       → (eqb (byte b.env.program f.pc) 8 && eqb (length (take (first + f.written) outs)) b.room) ≡ false
-      → (k : ℕ) → exit_before_of b.env.program (suc k) (length b.readings) b.room (call_in b first f xs outs) ≡ none
+      → (k : ℕ) → exit_before_of b.env.program (suc k) (length b.readings) b.room (call_in b first f xs outs) ≡ None
   none_before t g k =
       open-before b.env.program k (length b.readings) b.room (call_in b first f xs outs) i.stop
       (due-executed b.env.program (call_in b first f xs outs).machine i.erase i.saving) t g

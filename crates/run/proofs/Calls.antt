@@ -12,11 +12,11 @@ use lib.ListN.{length, take, drop, take-append-drop}
 use lib.Seq.{sets, sets-eq, length-take-le}
 use Rattle.program.specs.Grounds.{Checks}
 use Rattle.program.specs.Places.{Places}
-use Rattle.program.specs.declared.Checked.TheVariants as checked
+use Rattle.program.specs.Check as checked
 use Rattle.program.proofs.Accepted.{accepted}
 use Rattle.program.proofs.Grounds.{accepted-values}
 use Rattle.program.proofs.Tests.{bool_cases}
-use Rattle.run.specs.declared.Ended.{Ended}
+use Rattle.run.specs.Run.{Ended}
 use Rattle.run.specs.declared.Pass.{Pass}
 use Rattle.journal.specs.Format.{chip_length}
 use Rattle.journal.proofs.Paging.{ChipLength, chip-length}

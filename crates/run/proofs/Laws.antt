@@ -4,7 +4,7 @@
 use mathlib.Core.Path.{◌≡◌, refl, sym, ◌∙◌, ap}
 use mathlib.Core.Bool.{Bool, true, false, cond, ◌&&◌}
 use mathlib.Core.List.{List, [], ◌++◌, append-nil, append_assoc}
-use mathlib.Core.Option.{none, some}
+use Rattle.std.proofs.Common.{None, Some}
 use Prim.Native.Nat.{ℕ, zero, suc, ◌+◌, ◌-◌, ◌≤◌, ◌<◌}
 use native.Mathlib.Omega.{arith}
 use borrow.Author.Tests.{eqb-true, eqb-false, eq-eqb, ne_eqb}
@@ -16,8 +16,7 @@ use Rattle.instruction.specs.Bytes.{byte, instruction_from, instruction_at_of}
 use Rattle.instruction.specs.declared.Instruction.{Instruction}
 use Rattle.execution.specs.Effects.{Effect, stops, on, goes, writes, takes, gives, sets, saves, effect_of}
 use Rattle.program.proofs.Tests.{bool_cases, clash, and_both}
-use Rattle.run.specs.declared.Ended.{Ended}
-use Rattle.run.specs.declared.Ended.TheVariants.{Stopped, Spent, NoReading, BufferFull}
+use Rattle.run.specs.Run.{Ended, Refused, Stopped, Spent, NoReading, BufferFull}
 use Rattle.step.specs.State.{Env, Machine}
 use Rattle.step.specs.Step.{step_of, executed_of, effect_at, due_opcode_of, given_by, taken_by, given_of, taken_of}
 use Rattle.step.specs.Ready.{Ready, Good}
@@ -42,7 +41,7 @@ pub record Goes (p : List ℕ) (left n room : ℕ) (c : Call) : Type 0 where
 
 module _ {p : List ℕ} {left n room : ℕ} {c : Call} where
   -- the exit before the step is the one that stands there
-  pub exit-is : {x : Ended} → Exits p left n room c x → exit_before_of p left n room c ≡ some x
+  pub exit-is : {x : Ended} → Exits p left n room c x → exit_before_of p left n room c ≡ Some x
   unfolding exit_before_of
   exit-is (stopped h) = rw (ne_eqb c.machine.regs.stop 0 h)
   exit-is (spent h l) = rw (eq-eqb c.machine.regs.stop 0 h, l)
@@ -52,7 +51,7 @@ module _ {p : List ℕ} {left n room : ℕ} {c : Call} where
       rw (eq-eqb c.machine.regs.stop 0 h, ne_eqb left 0 (λ z. omega arith), d, eq-eqb (length c.given) room t)
 
   -- there is none where none stands
-  pub exit-none : Goes p left n room c → exit_before_of p left n room c ≡ none
+  pub exit-none : Goes p left n room c → exit_before_of p left n room c ≡ None
   unfolding exit_before_of
   exit-none g =
       let s = eq-eqb c.machine.regs.stop 0 g.runs in
@@ -208,7 +207,7 @@ module _ (e : Env) (ρ : List ℤ) (room : ℕ) where
   run_ends (suc left) c h = rw (exit-is h)
 
   -- where none does it makes a step
-  pub makes-step : (left : ℕ) (c : Call) → exit_before_of e.program (suc left) (length ρ) room c ≡ none
+  pub makes-step : (left : ℕ) (c : Call) → exit_before_of e.program (suc left) (length ρ) room c ≡ None
       → run_of e ρ room (suc left) c ≡ run_of e ρ room left (stepped e ρ c)
   unfolding run_of
   makes-step left c h = rw h
@@ -491,3 +490,10 @@ module _ (e : Env) (ρ : List ℤ) (room : ℕ) (c : Call) (taken : c.taken ≤ 
   -- a run that goes on is a run begun afresh with what is left of the readings and of the places, counted from where it stood
   pub begun-afresh : (a : ℕ) → run_of e ρ room a c ≡ finish_onto c (run_of e (drop c.taken ρ) (room - length c.given) a (started c.machine))
   begun-afresh a = ap (run_of e ρ room a) (onto-started c) ∙ run-onto a (started c.machine)
+
+-- no run ends refused
+pub never-refused : {p : List ℕ} {left n room : ℕ} {c : Call} {x : Ended} {k : ℕ} → Exits p left n room c x → x ≡ Refused k → ⊥
+never-refused (stopped h) s = absurd (let z : ◌≡◌ {A = ℕ} 0 1 = cc in omega arith)
+never-refused (spent h l) s = absurd (let z : ◌≡◌ {A = ℕ} 0 1 = cc in omega arith)
+never-refused (no_reading h l d t) s = absurd (let z : ◌≡◌ {A = ℕ} 0 1 = cc in omega arith)
+never-refused (buffer_full h l d t) s = absurd (let z : ◌≡◌ {A = ℕ} 0 1 = cc in omega arith)

@@ -1,7 +1,7 @@
 -- A call's answer is the one that document 01's grounds allow.
 -- Assumes nothing.
 use Prim.Native.Nat.{ℕ, ◌-◌, ◌<◌}
-use mathlib.Core.Path.{◌≡◌, sym, subst}
+use mathlib.Core.Path.{◌≡◌, sym, ap, subst}
 use mathlib.Core.Bool.{true}
 use mathlib.Core.List.{List}
 use native.Mathlib.Omega.{arith}
@@ -15,10 +15,10 @@ use Rattle.program.proofs.Grounds.{plan-passes, plan-refuses, by-check, by-words
 use Rattle.program.proofs.Tests.{bool_cases, clash}
 use Rattle.journal.specs.Format.{chip_length}
 use Rattle.step.specs.State.{Env, Machine, sound_of}
-use Rattle.run.specs.declared.Ended.{Ended}
+use Rattle.run.specs.Run.{Ended}
 use Rattle.run.specs.Run as run
-use Rattle.run.specs.Run.{Call, started, run_of, late_refusal_of, refusal_of, Outcome, call_of, answer_of, LateGround, state, size, Ground, Kind, CallIs}
-use Rattle.run.proofs.Laws.{Exits, stopped, spent, no_reading, buffer_full, run-exit}
+use Rattle.run.specs.Run.{Call, started, run_of, late_refusal_of, refusal_of, Outcome, refused_with, call_of, answer_of, LateGround, state, size, Ground, Kind, CallIs}
+use Rattle.run.proofs.Laws.{Exits, stopped, spent, no_reading, buffer_full, run-exit, never-refused}
 
 -- ---- its own grounds
 
@@ -81,3 +81,11 @@ module _ (e : Env) (ρ : List ℤ) (budget : ℕ) (m : Machine) (outs : List ℤ
         ruled =
             subst (λ (o : Outcome). Allowed (Ground e m) (Kind e.program budget (length ρ) (length outs) end) (answer_of o.ended)) (sym h) ruled;
       }
+
+  -- a refused call alters nothing: what it leaves is as it was lent
+  pub refused-kept : {n : ℕ} {k : Machine} {now : List ℤ} → refused_with n k now ≡ call_of e ρ budget m outs → (k ≡ m) × (now ≡ outs)
+  unfolding call_of
+  refused-kept {n} {k} {now} h =
+      bool_cases (eqb (refusal_of e m) 0)
+      (λ a. let z = rw a at h in absurd (never-refused (run-exit e ρ (length outs) budget (started m)) (ap (λ (o : Outcome). o.ended) (sym z))))
+      (λ a. let z = rw a at h in (ap (λ (o : Outcome). o.machine) z, ap (λ (o : Outcome). o.outputs) z))

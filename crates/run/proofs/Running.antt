@@ -2,24 +2,22 @@
 -- Assumes nothing.
 use mathlib.Core.Path.{◌≡◌, refl, sym, ◌∙◌, ap, subst}
 use mathlib.Core.List.{List, ◌++◌}
-use mathlib.Core.Option.{none, some}
+use Rattle.std.proofs.Common.{None, Some}
 use Prim.Native.Nat.{ℕ, zero, suc, ◌+◌, ◌-◌, ◌≤◌, ◌<◌}
 use native.Mathlib.Nat.{add-zero}
 use native.Mathlib.Omega.{arith}
 use lib.IntN.{ℤ, pos}
 use lib.ListN.{length, get_or, take, drop, length-drop, length-append}
 use lib.Seq.{take_all, drop-drop, length-take-le}
-use Rattle.run.specs.declared.Ended.{Ended}
+use Rattle.run.specs.Run.{Ended}
 use Rattle.run.specs.declared.Pass.{Pass}
 use Rattle.run.specs.declared.quiet.Flow.{Flow}
-use Rattle.run.specs.declared.run.Exit.{Exit}
-use Rattle.run.specs.declared.Stand.{Stand}
 use Rattle.step.specs.State.{Env, Machine, machine_of}
 use Rattle.step.specs.Step.{given_of}
 use Rattle.run.specs.Run.{Call, exit_before_of, stepped, run_of, started}
 use Rattle.run.specs.Stretch.{StoreIs}
 use Rattle.step.specs.Ready.{Ready, Good}
-use Rattle.run.specs.Standing.{standing, Within, exit_of, RushIs, TurnIs, RunIs}
+use Rattle.run.specs.Standing.{standing, Within, RushIs, TurnIs, RunIs}
 use Rattle.run.specs.Quiet.{Base, regs_at, call_in, Along, flow_at, QuietIs}
 use Rattle.step.proofs.Keeping.{good-step}
 use Rattle.run.proofs.Turns.{Open, open_none, none_open}
@@ -115,13 +113,13 @@ module _ (p : List ℕ) (ρ : List ℤ) (budget : ℕ) (b : Pass) (xs : List ℕ
 -- ---- `run`
 
 -- where there is an exit the run ends, else it goes on after a step
-pub run_ends : (e : Env) (ρ : List ℤ) (room left : ℕ) (c : Call) {x : Ended} → some x ≡ exit_before_of e.program left (length ρ) room c
+pub run_ends : (e : Env) (ρ : List ℤ) (room left : ℕ) (c : Call) {x : Ended} → Some x ≡ exit_before_of e.program left (length ρ) room c
     → record { ended = x; call = c } ≡ run_of e ρ room left c
 unfolding run_of
 run_ends e ρ room zero c h = rw (← h)
 run_ends e ρ room (suc left) c h = rw (← h)
 
-pub run-goes : (e : Env) (ρ : List ℤ) (room left : ℕ) (c : Call) → none ≡ exit_before_of e.program (suc left) (length ρ) room c
+pub run-goes : (e : Env) (ρ : List ℤ) (room left : ℕ) (c : Call) → None ≡ exit_before_of e.program (suc left) (length ρ) room c
     → run_of e ρ room left (stepped e ρ c) ≡ run_of e ρ room (suc left) c
 unfolding run_of
 run-goes e ρ room left c h = rw (← h)
@@ -134,18 +132,6 @@ pub record Running (e : Env) (ρ : List ℤ) (budget : ℕ) (m₀ : Machine) (ou
   pub size : length outs ≡ length outs₀
   pub later : drop b.written outs ≡ drop b.written outs₀
   pub same : run_of e ρ (length outs₀) (budget - b.steps) (standing b xs ms l outs) ≡ run_of e ρ (length outs₀) budget (started m₀)
-
-pub running-first : (e : Env) (ρ : List ℤ) (budget : ℕ) (m : Machine) (outs : List ℤ) → Good e.program m
-    → Running e ρ budget m outs (record { regs = m.regs; steps = 0; taken = 0; written = 0 }) m.cells m.marks m.journal outs
-running-first e ρ budget m outs g =
-    record {
-      within = record { steps = omega arith; taken = omega arith; written = omega arith };
-      good = g;
-      chip = refl;
-      size = refl;
-      later = refl;
-      same = let z : budget - 0 ≡ budget = omega arith in rw z;
-    }
 
 -- later places, seen from further on
 later-on : {i k : ℕ} (outs outs₀ : List ℤ) → i ≤ k → drop i outs ≡ drop i outs₀ → drop k outs ≡ drop k outs₀
@@ -179,28 +165,26 @@ module _ {e : Env} {ρ : List ℤ} {budget : ℕ} {m₀ : Machine} {outs₀ : Li
         same = q.same e ρ (length outs₀) outs refl ∙ run.same;
       }
 
-  -- an exit: x was found, and ends the run by z
-  pub running-ends : {x y : Exit} {z : Ended} {s : Stand}
-      → exit_of x ≡ exit_before_of e.program (budget - b.steps) (length ρ) (length outs) (standing b xs ms l outs) → x ≡ y → some z ≡ exit_of y
-      → s ≡ record { pass = b; ended = z } → RunIs e ρ budget m₀ outs₀ s.ended s.pass (standing s.pass xs ms l outs) outs
-  running-ends h d t q =
-      let x = rw run.size at (t ∙ ap exit_of (sym d) ∙ h) in
-      rw q (record {
-        finish = run_ends e ρ (length outs₀) (budget - b.steps) (standing b xs ms l outs) x ∙ run.same;
+  -- an exit ends the run
+  pub running-ends : {z : Ended} → Some z ≡ exit_before_of e.program (budget - b.steps) (length ρ) (length outs) (standing b xs ms l outs)
+      → RunIs e ρ budget m₀ outs₀ z b (standing b xs ms l outs) outs
+  running-ends h =
+      record {
+        finish = run_ends e ρ (length outs₀) (budget - b.steps) (standing b xs ms l outs) (rw run.size at h) ∙ run.same;
         size = run.size;
         later = run.later;
         written = omega (arith, run.within.written, run.size);
-      })
+      }
 
   -- no exit: the step is due, also with one step of budget and the readings from the next untaken one on
-  module _ (go : none ≡ exit_before_of e.program (budget - b.steps) (length ρ) (length outs) (standing b xs ms l outs)) where
+  module _ (go : None ≡ exit_before_of e.program (budget - b.steps) (length ρ) (length outs) (standing b xs ms l outs)) where
     free : Open e.program (length ρ) (length outs) (standing b xs ms l outs) × (budget - b.steps ≡ 0 → ⊥)
     free = none_open e.program (budget - b.steps) (length ρ) (length outs) (standing b xs ms l outs) (sym go)
 
     pub running-left : b.steps < budget
     running-left = let z = free.1 in omega (arith, run.within.steps)
 
-    pub running-due : (n : ℕ) → n ≡ length ρ - b.taken → exit_before_of e.program 1 (b.taken + n) (length outs) (standing b xs ms l outs) ≡ none
+    pub running-due : (n : ℕ) → n ≡ length ρ - b.taken → exit_before_of e.program 1 (b.taken + n) (length outs) (standing b xs ms l outs) ≡ None
     running-due n h =
         let z : b.taken + n ≡ length ρ = omega (arith, run.within.taken) in
         rw z (sym (open_none e.program 1 (length ρ) (length outs) (standing b xs ms l outs) free.0 (λ (u : ◌≡◌ {A = ℕ} 1 0). omega arith)))

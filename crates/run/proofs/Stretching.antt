@@ -3,14 +3,14 @@
 use mathlib.Core.Path.{◌≡◌, refl, sym, ◌∙◌, ap}
 use mathlib.Core.Bool.{cond}
 use mathlib.Core.List.{List, [], ◌∷◌, ◌++◌, append-nil}
-use mathlib.Core.Option.{none}
+use Rattle.std.proofs.Common.{None}
 use Prim.Native.Nat.{ℕ, zero, suc, ◌+◌, ◌-◌, ◌*◌, ◌/◌, ◌%◌, ◌≤◌, ◌<◌, min}
-use native.Mathlib.Nat.{add-zero, zero-add, suc-add, sub-zero, suc-ne-zero, zero-mul, one-mul, suc-mul, mul-le-mul_right, div-mul-le_self}
+use native.Mathlib.Nat.{add-zero, zero-add, suc-add, suc-ne-zero, zero-mul, one-mul, suc-mul, mul-le-mul_right, div-mul-le_self}
 use native.Mathlib.Omega.{arith}
 use lib.Dec.{eqb}
 use lib.IntN.{ℤ, pos}
-use lib.ListN.{length, get_or, set, take, drop, length-set, length-drop}
-use lib.Seq.{sets, sets-eq, length-sets, drop-cons, drop-append-le, take-append-le, drop-drop, take-add, length-take-le}
+use lib.ListN.{length, set, take, drop, length-drop}
+use lib.Seq.{sets, sets-eq, length-sets, drop-append-le, take-append-le, drop-drop, take-add, length-take-le}
 use borrow.Author.Tests.{eq-eqb, ne_eqb, eqb-true, eqb-false, lt-ltb}
 use Rattle.cellset.specs.Sets.{SetIs}
 use Rattle.instruction.specs.Bytes.{byte, cells_of, length_of}
@@ -31,33 +31,6 @@ use Rattle.run.specs.Stretch.{stored_regs, StoreIs}
 use Rattle.step.proofs.Facts.{sound-facts}
 use Rattle.step.proofs.Stepping.{image-same, size_small, page-left, storing, stores}
 use Rattle.step.proofs.Keeping.{good-step}
-
--- ---- bytes copied
-
--- `copy`: what is still to be stored leaves what all of it leaves
-pub record Copying (to from m : ℕ) (buffer l₀ l : List ℕ) (i : ℕ) : Type 0 where
-  pub size : length l ≡ length l₀
-  pub below : i ≤ m
-  pub rest : sets l (to + i) (take (m - i) (drop (from + i) buffer)) ≡ sets l₀ to (take m (drop from buffer))
-
-pub copying-first : (to from m : ℕ) (buffer l : List ℕ) → Copying to from m buffer l l 0
-copying-first to from m buffer l =
-    record { size = refl; below = omega arith; rest = rw (add-zero to, add-zero from, sub-zero m) }
-
-module _ {to from m : ℕ} {buffer l₀ l : List ℕ} {i : ℕ} (q : Copying to from m buffer l₀ l i) where
-  pub copying-turn : i < m → from + m ≤ length buffer → Copying to from m buffer l₀ (set l (to + i) (get_or buffer (from + i) 0)) (i + 1)
-  copying-turn h n =
-      let a : to + (i + 1) ≡ suc (to + i) = omega arith in
-      let b : from + (i + 1) ≡ suc (from + i) = omega arith in
-      let k : m - i ≡ suc (m - (i + 1)) = omega arith in
-      record {
-        size = length-set l (to + i) (get_or buffer (from + i) 0) ∙ q.size;
-        below = omega arith;
-        rest = rw (a, b) (rw (k, drop-cons buffer (from + i) 0 (omega arith)) at q.rest);
-      }
-
-  pub copying-done : m ≤ i → l ≡ sets l₀ to (take m (drop from buffer))
-  copying-done h = let k : m - i ≡ 0 = omega arith in rw k at q.rest
 
 -- ---- the checkpoint
 
@@ -99,7 +72,7 @@ record Storage (m : Machine) : Type 0 where
   some : 0 < m.regs.saving
 
 module _ {m : Machine} (s : Storage m) where
-  no-exit : (p : List ℕ) (left n room steps taken : ℕ) (given : List ℤ) → exit_before_of p (suc left) n room (at m steps taken given) ≡ none
+  no-exit : (p : List ℕ) (left n room steps taken : ℕ) (given : List ℤ) → exit_before_of p (suc left) n room (at m steps taken given) ≡ None
   unfolding exit_before_of due_opcode_of
   no-exit p left n room steps taken given = rw (s.runs, ne_eqb (suc left) 0 (suc-ne-zero left), s.nothing, lt-ltb _ _ s.some)
 

@@ -3,30 +3,27 @@
 use mathlib.Core.Path.{◌≡◌, refl, sym, ◌∙◌, ap}
 use mathlib.Core.Bool.{Bool, true, false, cond, not, ◌&&◌}
 use mathlib.Core.List.{List, [], ◌∷◌, ◌++◌}
-use mathlib.Core.Option.{Option, none, some}
+use Rattle.std.proofs.Common.{Option, None, Some}
 use Prim.Native.Nat.{ℕ, suc, ◌+◌, ◌-◌, ◌≤◌, ◌<◌}
 use native.Mathlib.Omega.{arith}
 use borrow.Author.Tests.{lt-ltb, le-ltb, eq-eqb, ne_eqb, eqb-true, eqb-false, not-false, ltb-true, ltb-false}
 use lib.IntN.{ℤ, pos}
-use lib.ListN.{length, get_or, take, drop, set, replicate, length-append, length-take, length-drop, get_or-eq_default}
+use lib.ListN.{length, get_or, take, drop, replicate, length-append, length-take, length-drop}
 use lib.Seq.{sets, length-sets, sets-eq, take_at, drop_at, get_or-drop, length-take-le}
 use lib.Dec.{eqb, ltb}
-use mir.Syntax.{w32}
-use mir.Val.{to_z, of_z, SFits}
-use mir.Facts.{to_z-of_z}
 use Rattle.word.specs.Word.{val, less_of}
 use Rattle.instruction.specs.Bytes.{byte, instruction_from, instruction_at_of}
 use Rattle.instruction.specs.declared.Instruction.{Instruction}
 use Rattle.instruction.specs.declared.Instruction.TheVariants.{End, Set, Copy, Add, Sub, Div, Read, Emit, Jump, Less, Get, Put, Exclude, Checkpoint}
 use Rattle.program.specs.Check.{check_of}
 use Rattle.program.specs.Places.{is_start}
-use Rattle.program.specs.declared.Checked.TheVariants.{Program}
+use Rattle.program.specs.Check.{Program}
 use Rattle.program.proofs.Tests.{bool_cases, clash}
 use Rattle.program.proofs.Accepted.{accepted, start-within}
 use Rattle.execution.specs.Effects.{Effect, stops, on, goes, writes, takes, gives, saves, effect_of, cells_in}
 use Rattle.execution.specs.Effects as effects
-use Rattle.run.specs.declared.Ended.{Ended}
-use Rattle.run.specs.declared.Ended.TheVariants.{Stopped, Spent, NoReading, BufferFull}
+use Rattle.run.specs.Run.{Ended}
+use Rattle.run.specs.Run.{Stopped, Spent, NoReading, BufferFull}
 use Rattle.run.specs.declared.Pass.{Pass}
 use Rattle.step.specs.declared.Regs.{Regs}
 use Rattle.step.specs.State.{Env, Machine, machine_of, size_at, fits_at, kinds_sound, sound_of}
@@ -53,21 +50,21 @@ module _ (p : List ℕ) (r : Regs) where
 -- ---- the exit before a step
 
 module _ (p : List ℕ) (left n room : ℕ) (c : Call) where
-  pub exit-stopped : (c.machine.regs.stop ≡ 0 → ⊥) → some (Stopped c.machine.regs.stop) ≡ exit_before_of p left n room c
+  pub exit-stopped : (c.machine.regs.stop ≡ 0 → ⊥) → Some (Stopped c.machine.regs.stop) ≡ exit_before_of p left n room c
   unfolding exit_before_of
   exit-stopped h = rw (ne_eqb c.machine.regs.stop 0 h)
 
-  pub exit_spent : c.machine.regs.stop ≡ 0 → left ≡ 0 → some Spent ≡ exit_before_of p left n room c
+  pub exit_spent : c.machine.regs.stop ≡ 0 → left ≡ 0 → Some Spent ≡ exit_before_of p left n room c
   unfolding exit_before_of
   exit_spent h z = rw (eq-eqb c.machine.regs.stop 0 h, eq-eqb left 0 z)
 
   pub exit-starved : c.machine.regs.stop ≡ 0 → (left ≡ 0 → ⊥) → due_opcode_of p c.machine ≡ 7 → c.taken ≡ n
-      → some NoReading ≡ exit_before_of p left n room c
+      → Some NoReading ≡ exit_before_of p left n room c
   unfolding exit_before_of
   exit-starved h z d e = rw (eq-eqb c.machine.regs.stop 0 h, ne_eqb left 0 z, d, eq-eqb c.taken n e)
 
   pub exit-full : c.machine.regs.stop ≡ 0 → (left ≡ 0 → ⊥) → due_opcode_of p c.machine ≡ 8 → length c.given ≡ room
-      → some BufferFull ≡ exit_before_of p left n room c
+      → Some BufferFull ≡ exit_before_of p left n room c
   unfolding exit_before_of
   exit-full h z d e = rw (eq-eqb c.machine.regs.stop 0 h, ne_eqb left 0 z, d, eq-eqb (length c.given) room e)
 
@@ -95,7 +92,7 @@ open_at p b n room k due s f r xs ms l outs w =
       roomy = λ d t. r (due xs ms l ∙ d) (sym (length-take-le b.written outs w) ∙ t);
     }
 
-pub open_none : (p : List ℕ) (left n room : ℕ) (c : Call) → Open p n room c → (left ≡ 0 → ⊥) → none ≡ exit_before_of p left n room c
+pub open_none : (p : List ℕ) (left n room : ℕ) (c : Call) → Open p n room c → (left ≡ 0 → ⊥) → None ≡ exit_before_of p left n room c
 unfolding exit_before_of
 open_none p left n room c o z =
     rw (
@@ -106,11 +103,11 @@ open_none p left n room c o z =
     )
 
 -- the next of the tests failed, or there is an exit
-past : {C : Type 0} (x : Ended) (b : Bool) {r : Option Ended} → cond b (some x) r ≡ none → (b ≡ false → r ≡ none → C) → C
+past : {C : Type 0} (x : Ended) (b : Bool) {r : Option Ended} → cond b (Some x) r ≡ None → (b ≡ false → r ≡ None → C) → C
 past x true h f = absurd (let z : ◌≡◌ {A = ℕ} 0 1 = cc in omega arith)
 past x false h f = f refl h
 
-pub none_open : (p : List ℕ) (left n room : ℕ) (c : Call) → exit_before_of p left n room c ≡ none → Open p n room c × (left ≡ 0 → ⊥)
+pub none_open : (p : List ℕ) (left n room : ℕ) (c : Call) → exit_before_of p left n room c ≡ None → Open p n room c × (left ≡ 0 → ⊥)
 unfolding exit_before_of
 none_open p left n room c h =
     past _ (not (eqb c.machine.regs.stop 0)) h (λ h1 r1.
@@ -290,17 +287,6 @@ legal-within p o h s =
     let w = (start-within p a o s).1 in
     (w, omega (arith, a.most))
 
--- ---- `first` and `put_output`
-
-pub first-none : (readings : List ℤ) → length readings ≡ 0 → pos 0 ≡ get_or readings 0 (pos 0)
-first-none readings h = sym (get_or-eq_default readings (pos 0) {n = 0} (omega arith))
-
--- what is stored is read back from the machine's bits
-pub put_one : (outs : List ℤ) (to n : ℕ) {v : ℤ} → SFits w32 v → n ≤ 1 → (n ≡ 0 → ⊥) → set outs to (to_z w32 (of_z w32 v)) ≡ sets outs to (replicate n v)
-put_one outs to n f h z =
-    let one : n ≡ 1 = omega arith in
-    rw one (ap (set outs to) (to_z-of_z f))
-
 -- ---- `turn`
 
 -- what is stored from i on is given, and the later places are as they were
@@ -348,7 +334,7 @@ module _ (e : Env) (b : Pass) (xs ms l : List ℕ) (v : ℤ) where
   given = given_of e.program v before
 
   module _ (outs : List ℤ) (n : ℕ) (lent : b.taken ≤ n) (room : b.written ≤ length outs)
-      (due : exit_before_of e.program 1 n (length outs) (standing b xs ms l outs) ≡ none)
+      (due : exit_before_of e.program 1 n (length outs) (standing b xs ms l outs) ≡ None)
       (q : Regs) (xs' ms' l' : List ℕ) (step : machine_of q xs' ms' l' ≡ step_of e v before) where
     took : q.readings ≡ b.regs.readings + taken_of e.program v before
     took = ap (λ (x : Machine). x.regs.readings) step ∙ (step-moves e v before).readings

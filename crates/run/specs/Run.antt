@@ -1,15 +1,34 @@
 -- A run: "Run is given a budget of steps and repeats steps".
 -- Assumes nothing.
-use Rattle.std.specs.Prelude.{ℕ, zero, suc, ◌+◌, ◌≤◌, ◌<◌, ◌≡◌, false, cond, ◌&&◌, not, List, [], ◌∷◌, ◌++◌, ℤ, pos, length, get_or, eqb, ltb}
-use Rattle.std.proofs.Math.Option.{Option, none, some}
+use Rattle.std.specs.Prelude.{ℕ, zero, suc, ◌+◌, ◌≤◌, ◌<◌, ◌≡◌, false, cond, ◌&&◌, not, List, [], ◌∷◌, ◌++◌, ℤ, pos, length, get_or, eqb, ltb, Result, Ok, Err}
+use Rattle.std.specs.Prelude.{Option, None, Some}
 use Rattle.std.proofs.lemmas.List.Edits.{sets}
 use Rattle.program.specs.Check.{Answer, number_of, check_of}
 use Rattle.program.specs.Grounds.{Allowed, CallGround}
-use Rattle.run.specs.declared.Ended.{Ended}
-use Rattle.run.specs.declared.Ended.TheVariants.{Refused, Stopped, Spent, NoReading, BufferFull}
+use Rattle.program.specs.Refusal.{refusal_number}
+use Rattle.program.specs.declared.refusal.Refusal.{Refusal}
+use Rattle.run.specs.declared.Ended as code
+use Rattle.run.specs.declared.Ended.TheVariants as exit
 use Rattle.journal.specs.Format.{chip_length}
-use Rattle.step.specs.State.{Env, Machine, sound_of}
+use Rattle.run.specs.declared.Stand.{Stand}
+use Rattle.run.specs.declared.Ran.{Ran}
+use Rattle.step.specs.declared.Regs.{Regs}
+use Rattle.step.specs.State.{Env, Machine, machine_of, sound_of}
 use Rattle.step.specs.Step.{step_of, due_opcode_of, given_of, taken_of}
+
+-- how a run ended: refused with a number, or one of the four exits, a stop with its kind
+pub data Ended : Type 0 where
+  Refused : ℕ → Ended
+  Stopped : ℕ → Ended
+  Spent : Ended
+  NoReading : Ended
+  BufferFull : Ended
+
+abbrev pub ended_of : code.Ended → Ended
+ended_of (exit.Stopped k) = Stopped k
+ended_of exit.Spent = Spent
+ended_of exit.NoReading = NoReading
+ended_of exit.BufferFull = BufferFull
 
 -- where a run stands: the machine, "this call's steps, readings taken and outputs written"
 pub record Call : Type 0 where
@@ -25,11 +44,11 @@ started m = record { machine = m; steps = 0; taken = 0; given = [] }
 -- the budget that remains, n the readings lent, room the places for outputs
 unfoldable pub exit_before_of : List ℕ → (left n room : ℕ) → Call → Option Ended
 exit_before_of p left n room c =
-    cond (not (eqb c.machine.regs.stop 0)) (some (Stopped c.machine.regs.stop))
-    (cond (eqb left 0) (some Spent)
-    (cond (eqb (due_opcode_of p c.machine) 0x07 && eqb c.taken n) (some NoReading)
-    (cond (eqb (due_opcode_of p c.machine) 0x08 && eqb (length c.given) room) (some BufferFull)
-    none)))
+    cond (not (eqb c.machine.regs.stop 0)) (Some (Stopped c.machine.regs.stop))
+    (cond (eqb left 0) (Some Spent)
+    (cond (eqb (due_opcode_of p c.machine) 0x07 && eqb c.taken n) (Some NoReading)
+    (cond (eqb (due_opcode_of p c.machine) 0x08 && eqb (length c.given) room) (Some BufferFull)
+    None)))
 
 -- one step; the next reading is the one behind those taken
 unfoldable pub stepped : Env → List ℤ → Call → Call
@@ -49,8 +68,8 @@ pub record Finish : Type 0 where
 
 -- by cases on the exit found; next is the run that goes on
 abbrev pub finish_by : Option Ended → Call → Finish → Finish
-finish_by (some x) c next = record { ended = x; call = c }
-finish_by none c next = next
+finish_by (Some x) c next = record { ended = x; call = c }
+finish_by None c next = next
 
 -- the run with so much budget left; where none is left there is always an exit
 unfoldable pub run_of : Env → List ℤ → (room left : ℕ) → Call → Finish
@@ -99,6 +118,16 @@ outcome_of r outs =
 -- a refusal "alters nothing lent"
 abbrev pub refused_with : ℕ → Machine → List ℤ → Outcome
 refused_with n m outs = record { ended = Refused n; machine = m; steps = 0; taken = 0; written = 0; outputs = outs }
+
+-- what the code leaves on lent cells, marks and journal of a run that began with these registers
+abbrev pub stood : Regs → Result Stand Refusal → (cells marks journal : List ℕ) → List ℤ → Outcome
+stood start (Ok s) xs ms l outs = outcome (ended_of s.ended) (machine_of s.pass.regs xs ms l) s.pass.steps s.pass.taken s.pass.written outs
+stood start (Err r) xs ms l outs = refused_with (refusal_number r) (machine_of start xs ms l) outs
+
+-- what the code leaves of the machine m, its state given back by value
+abbrev pub ran : Machine → Result Ran Refusal → (journal : List ℕ) → List ℤ → Outcome
+ran m (Ok r) l outs = outcome (ended_of r.ended) (machine_of r.state.regs r.state.cells r.state.marks l) r.steps r.taken r.written outs
+ran m (Err r) l outs = refused_with (refusal_number r) m outs
 
 unfoldable pub call_of : Env → List ℤ → (budget : ℕ) → Machine → List ℤ → Outcome
 call_of e ρ budget m outs =

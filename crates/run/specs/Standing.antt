@@ -1,14 +1,10 @@
 -- Where a run stands, and what the functions of a run promise.
 -- Assumes nothing.
 use Rattle.std.specs.Prelude.{ℕ, ◌-◌, ◌≤◌, ◌≡◌, List, ℤ, length, take, drop}
-use Rattle.std.proofs.Math.Option.{Option, none, some}
 use Rattle.step.specs.State.{Env, Machine, machine_of}
 use Rattle.step.specs.Ready.{Ready, Good}
 use Rattle.run.specs.Run.{Call, stepped, run_of, started}
-use Rattle.run.specs.declared.Ended.{Ended}
-use Rattle.run.specs.declared.Ended.TheVariants.{Stopped, Spent, NoReading, BufferFull}
-use Rattle.run.specs.declared.run.Exit.{Exit}
-use Rattle.run.specs.declared.run.Exit.TheVariants as exit
+use Rattle.run.specs.Run.{Ended}
 use Rattle.run.specs.declared.Pass.{Pass}
 
 -- where a run stands, from its registers and numbers and the buffers: the outputs given are the first of the buffer
@@ -26,14 +22,6 @@ pub record Within (b : Pass) (budget n room : ℕ) : Type 0 where
   pub steps : b.steps ≤ budget
   pub taken : b.taken ≤ n
   pub written : b.written ≤ room
-
--- the exit that the code found, as one of `Ended`
-abbrev pub exit_of : Exit → Option Ended
-exit_of (exit.Stopped k) = some (Stopped k)
-exit_of exit.Spent = some Spent
-exit_of exit.NoReading = some NoReading
-exit_of exit.BufferFull = some BufferFull
-exit_of exit.None = none
 
 -- what the inner loop leaves of a run: the same run, from further on
 pub record RushIs (p : List ℕ) (ρ : List ℤ) (budget : ℕ) (b₀ : Pass) (xs₀ : List ℕ) (outs₀ : List ℤ) (b : Pass) (xs : List ℕ) (outs : List ℤ) : Type 0 where

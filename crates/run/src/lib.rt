@@ -7,27 +7,49 @@ mod quiet;
 mod run;
 mod stretch;
 
-ghost use Rattle.std.specs.Prelude.{◌≡◌, List, ℕ, length};
+ghost use Rattle.std.specs.Prelude.{◌≡◌, List, ℕ, length, get_or};
 ghost use Rattle.program.specs.Places.{Places};
+ghost use Rattle.program.specs.Refusal.{number_if};
 ghost use Rattle.step.specs.State.{env_of, machine_of};
-ghost use Rattle.run.specs.Run.{late_refusal_of, outcome, CallIs};
+ghost use Rattle.run.specs.Run.{late_refusal_of, stood, ran, answer_of, ended_of, CallIs};
 ghost use Rattle.step.specs.Ready.{Legal};
 
 use journal::pages::is_length;
+use program::examine;
 use program::places::blank;
-use program::{Checked, examine};
+use program::refusal::Refusal;
 use run::run;
+use std::fmt;
 use step::sound::sound;
 use step::{Regs, State};
 
-// How a run ended: refused, stopped with its kind, budget spent, no reading left, output buffer full.
-#[derive(Clone, Copy)]
+// How a run ended: stopped with its kind, budget spent, no reading left, output buffer full.
+#[derive(Clone, Copy, PartialEq, Eq)]
 pub enum Ended {
-    Refused(u32),
     Stopped(u32),
     Spent,
     NoReading,
     BufferFull,
+}
+
+// The numbers of include/pitskelo.h: 1 to 3 a stop and its kind, then 4 to 6.
+impl From<Ended> for u32 {
+    ghost from_gives = { λ ended number. number ≡ get_or (answer_of (ended_of ended)).values 0 0 };
+
+    fn from(ended: Ended) -> u32 {
+        match ended {
+            Ended::Stopped(kind) => kind,
+            Ended::Spent => 4,
+            Ended::NoReading => 5,
+            Ended::BufferFull => 6,
+        }
+    }
+}
+
+impl fmt::Display for Ended {
+    fn fmt<W: fmt::Write>(&self, f: &mut fmt::Formatter<W>) -> fmt::Result {
+        write!(f, "{}", u32::from(*self))
+    }
 }
 
 // Where a run stands: its registers, steps, readings taken and outputs written.
@@ -57,35 +79,8 @@ pub struct Ran {
     pub written: usize,
 }
 
-// A refused run stands where it started.
-fn refused_at(start: Regs, number: u32) -> Stand
-    ensures { result ≡ record { pass = record { regs = start; steps = 0; taken = 0; written = 0 }; ended = Ended.Refused number } }
-{
-    Stand {
-        pass: Pass {
-            regs: start,
-            steps: 0,
-            taken: 0,
-            written: 0,
-        },
-        ended: Ended::Refused(number),
-    }
-}
-
-fn refused(state: State, number: u32) -> Ran
-    ensures { result ≡ record { state = state; ended = Ended.Refused number; steps = 0; taken = 0; written = 0 } }
-{
-    Ran {
-        state,
-        ended: Ended::Refused(number),
-        steps: 0,
-        taken: 0,
-        written: 0,
-    }
-}
-
-// The refusals 9 to 11, 0 where there is none, for an accepted program and its table of places.
-fn late_refusal(
+// The refusals 9 to 11, for an accepted program and its table of places.
+fn refuse_late(
     r: Regs,
     program: &[u8],
     table: &[u8; 2048],
@@ -93,20 +88,20 @@ fn late_refusal(
     cells: &[u32; 256],
     marks: &[u8; 256],
     len: usize,
-) -> u32
+) -> Result<(), Refusal>
     requires { Legal program.now × Places program.now table.now }
-    ensures { (l : List ℕ) → length l ≡ len → result ≡ late_refusal_of program.now words (machine_of r cells.now marks.now l) }
+    ensures { (l : List ℕ) → length l ≡ len → number_if result ≡ late_refusal_of program.now words (machine_of r cells.now marks.now l) }
 {
     if words < 512 {
-        return 9;
+        return Err(Refusal::ShortWords);
     }
     if !sound(r, program, table, cells, marks, len) {
-        return 10;
+        return Err(Refusal::UnsoundState);
     }
     if !is_length(len, r.page) {
-        return 11;
+        return Err(Refusal::ChipLength);
     }
-    0
+    Ok(())
 }
 
 // The run of an accepted program on cells and marks that are lent, which the refusals 9 to 11 may still prevent.
@@ -121,18 +116,22 @@ pub fn run_in_place(
     readings: &[i32],
     outputs: &mut [i32],
     budget: u64,
-) -> Stand
+) -> Result<Stand, Refusal>
     requires { Legal program.now × Places program.now table.now × (length cells.old ≡ 256) × (length marks.old ≡ 256) }
-    ensures { CallIs (env_of program.now sets.now) readings.now budget (machine_of start cells.old marks.old journal.old) outputs.old (outcome result.ended (machine_of result.pass.regs cells.new marks.new journal.new) result.pass.steps result.pass.taken result.pass.written outputs.new) }
+    ensures { CallIs (env_of program.now sets.now) readings.now budget (machine_of start cells.old marks.old journal.old) outputs.old (stood start result cells.new marks.new journal.new outputs.new) }
 {
-    let words = sets.len();
-    let number = late_refusal(start, program, table, words, cells, marks, journal.len());
-    if number != 0 {
-        return refused_at(start, number);
-    }
-    run(
+    refuse_late(
+        start,
+        program,
+        table,
+        sets.len(),
+        cells,
+        marks,
+        journal.len(),
+    )?;
+    Ok(run(
         start, budget, readings, program, table, sets, cells, marks, journal, outputs,
-    )
+    ))
 }
 
 // The run of an accepted program on a state by value.
@@ -145,26 +144,25 @@ fn run_legal(
     readings: &[i32],
     outputs: &mut [i32],
     budget: u64,
-) -> Ran
+) -> Result<Ran, Refusal>
     requires { Legal program.now × Places program.now table.now }
-    ensures { CallIs (env_of program.now sets.now) readings.now budget (machine_of state.regs state.cells state.marks journal.old) outputs.old (outcome result.ended (machine_of result.state.regs result.state.cells result.state.marks journal.new) result.steps result.taken result.written outputs.new) }
+    ensures { CallIs (env_of program.now sets.now) readings.now budget (machine_of state.regs state.cells state.marks journal.old) outputs.old (ran (machine_of state.regs state.cells state.marks journal.new) result journal.new outputs.new) }
 {
     let regs = state.regs;
     let mut cells = state.cells;
     let mut marks = state.marks;
     let end = run_in_place(
         regs, program, table, sets, &mut cells, &mut marks, journal, readings, outputs, budget,
-    );
-    let ended = end.ended;
+    )?;
     let pass = end.pass;
     let regs = pass.regs;
-    Ran {
+    Ok(Ran {
         state: State { regs, cells, marks },
-        ended,
+        ended: end.ended,
         steps: pass.steps,
         taken: pass.taken,
         written: pass.written,
-    }
+    })
 }
 
 // A run, or a refusal that alters nothing.
@@ -176,20 +174,14 @@ pub fn run_value(
     readings: &[i32],
     outputs: &mut [i32],
     budget: u64,
-) -> Ran
-    ensures { CallIs (env_of program.now sets.now) readings.now budget (machine_of state.regs state.cells state.marks journal.old) outputs.old (outcome result.ended (machine_of result.state.regs result.state.cells result.state.marks journal.new) result.steps result.taken result.written outputs.new) }
+) -> Result<Ran, Refusal>
+    ensures { CallIs (env_of program.now sets.now) readings.now budget (machine_of state.regs state.cells state.marks journal.old) outputs.old (ran (machine_of state.regs state.cells state.marks journal.new) result journal.new outputs.new) }
 {
     let mut table = blank();
-    match examine(program, &mut table) {
-        Checked::Refused(number) => refused(state, number),
-        Checked::Program {
-            cells: _,
-            instructions: _,
-            excludes: _,
-        } => run_legal(
-            state, program, &table, sets, journal, readings, outputs, budget,
-        ),
-    }
+    examine(program, &mut table)?;
+    run_legal(
+        state, program, &table, sets, journal, readings, outputs, budget,
+    )
 }
 
 // A run with a budget of one step.
@@ -200,8 +192,8 @@ pub fn step_value(
     journal: &mut [u8],
     readings: &[i32],
     outputs: &mut [i32],
-) -> Ran
-    ensures { CallIs (env_of program.now sets.now) readings.now 1 (machine_of state.regs state.cells state.marks journal.old) outputs.old (outcome result.ended (machine_of result.state.regs result.state.cells result.state.marks journal.new) result.steps result.taken result.written outputs.new) }
+) -> Result<Ran, Refusal>
+    ensures { CallIs (env_of program.now sets.now) readings.now 1 (machine_of state.regs state.cells state.marks journal.old) outputs.old (ran (machine_of state.regs state.cells state.marks journal.new) result journal.new outputs.new) }
 {
     run_value(state, program, sets, journal, readings, outputs, 1)
 }

@@ -70,6 +70,7 @@ pub fn quiet(
         taken: 0,
         written: 0,
     };
+    // The steps are a field of what goes from call to call, so they are counted by hand and not by a range.
     while f.steps < left {
         let at = f.pc as usize;
         if p[at] == READ {

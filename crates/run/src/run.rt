@@ -1,6 +1,5 @@
 // A run: steps until one of the four exits, the inner loop wherever it can.
-ghost use Rattle.std.specs.Prelude.{◌≡◌, true, List, ℕ, ◌+◌, ◌-◌, ◌<◌, ◌≤◌, ℤ, pos, length, get_or, drop, replicate};
-ghost use Rattle.std.proofs.Math.Option.{none};
+ghost use Rattle.std.specs.Prelude.{◌≡◌, true, List, ℕ, ◌+◌, ◌-◌, ◌<◌, ◌≤◌, ℤ, pos, length, get_or, drop, replicate, None, option_map};
 ghost use Rattle.std.proofs.lemmas.List.Edits.{sets};
 ghost use Rattle.instruction.specs.Bytes.{byte};
 ghost use Rattle.program.specs.Places.{is_start};
@@ -8,9 +7,9 @@ ghost use Rattle.execution.specs.Effects.{cells_in};
 ghost use Rattle.run.specs.Quiet.{regs_at};
 ghost use Rattle.step.specs.State.{env_of, machine_of};
 ghost use Rattle.step.specs.Step.{due_opcode_of};
-ghost use Rattle.run.specs.Run.{exit_before_of};
+ghost use Rattle.run.specs.Run.{ended_of, exit_before_of};
 ghost use Rattle.step.specs.Ready.{Legal, Ready, Good};
-ghost use Rattle.run.specs.Standing.{Within, standing, exit_of, RushIs, TurnIs, RunIs};
+ghost use Rattle.run.specs.Standing.{Within, standing, RushIs, TurnIs, RunIs};
 
 use crate::quiet::{Flow, quiet};
 use crate::stretch::store_some;
@@ -20,22 +19,11 @@ use instruction::opcodes::{EMIT, READ};
 use step::{Regs, step};
 use word::from_bits;
 
-// An exit before a step, or none.
-#[derive(Clone, Copy)]
-enum Exit {
-    Stopped(u32),
-    Spent,
-    NoReading,
-    BufferFull,
-    None,
-}
-
 // How many more a count can take, of n that are there.
 fn most(count: u32, n: usize) -> usize
     ensures { (result ≤ n) × (count + result ≤ 4294967295) }
 {
-    let room = (0xffff_ffff - count) as usize;
-    if n < room { n } else { room }
+    n.min((u32::MAX - count) as usize)
 }
 
 // The opcode of the instruction that is due, 0 where a byte is erased or stored.
@@ -43,49 +31,39 @@ fn due_opcode(r: Regs, p: &[u8]) -> u8
     requires { r.pc < length p.now }
     ensures { (xs ms l : List ℕ) → result ≡ due_opcode_of p.now (machine_of r xs ms l) }
 {
-    if 0 < r.erase {
-        return 0;
-    }
-    if 0 < r.saving {
+    if 0 < r.erase || 0 < r.saving {
         return 0;
     }
     p[r.pc as usize]
 }
 
 // The exit before the next step, with n readings lent and places for so many outputs: the four in their order.
-fn exit_before(b: Pass, left: u64, n: usize, room: usize, p: &[u8]) -> Exit
+fn exit_before(b: Pass, left: u64, n: usize, room: usize, p: &[u8]) -> Option<Ended>
     requires { b.regs.pc < length p.now }
-    ensures { (xs ms l : List ℕ) (outs : List ℤ) → b.written ≤ length outs → exit_of result ≡ exit_before_of p.now left n room (standing b xs ms l outs) }
+    ensures { (xs ms l : List ℕ) (outs : List ℤ) → b.written ≤ length outs → option_map ended_of result ≡ exit_before_of p.now left n room (standing b xs ms l outs) }
 {
     let stop = b.regs.stop;
     if stop != 0 {
-        return Exit::Stopped(stop);
+        return Some(Ended::Stopped(stop));
     }
     if left == 0 {
-        return Exit::Spent;
+        return Some(Ended::Spent);
     }
     let due = due_opcode(b.regs, p);
-    if due == READ {
-        if b.taken == n {
-            return Exit::NoReading;
-        }
+    if due == READ && b.taken == n {
+        return Some(Ended::NoReading);
     }
-    if due == EMIT {
-        if b.written == room {
-            return Exit::BufferFull;
-        }
+    if due == EMIT && b.written == room {
+        return Some(Ended::BufferFull);
     }
-    Exit::None
+    None
 }
 
 // The first reading, 0 where there is none.
 fn first(readings: &[i32]) -> i32
     ensures { result ≡ get_or readings.now 0 (pos 0) }
 {
-    if readings.len() == 0 {
-        return 0;
-    }
-    readings[0]
+    readings.first().copied().unwrap_or(0)
 }
 
 // The cell that an EMIT at the place would give; 0 past the program's end.
@@ -94,12 +72,6 @@ fn emitted_cell(p: &[u8], cells: &[u32; 256], pc: u32) -> u32
     ensures { result ≡ cells_in cells.now (byte p.now (pc + 1)) }
 {
     cells[byte_at(p, pc as usize + 1) as usize]
-}
-
-fn ended_at(b: Pass, ended: Ended) -> Stand
-    ensures { result ≡ record { pass = b; ended = ended } }
-{
-    Stand { pass: b, ended }
 }
 
 // Puts n values, none or one, to the place `to`.
@@ -142,17 +114,10 @@ fn rush(
     ensures { RushIs p.now readings.now budget b cells.old outputs.old result cells.new outputs.new }
 {
     let r = b.regs;
-    if r.stop != 0 {
+    if r.stop != 0 || r.erase != 0 || r.saving != 0 {
         return b;
     }
-    if r.erase != 0 {
-        return b;
-    }
-    if r.saving != 0 {
-        return b;
-    }
-    let taken = b.taken;
-    let rest = &readings[taken..];
+    let rest = &readings[b.taken..];
     let takes = most(r.readings, rest.len());
     let gives = most(r.outputs, outputs.len() - b.written);
     let f = quiet(
@@ -181,7 +146,7 @@ fn turn(
     journal: &mut [u8],
     outputs: &mut [i32],
 ) -> Pass
-    requires { Ready (env_of p.now sets.now) table.now × Good p.now (machine_of b.regs cells.old marks.old journal.old) × (b.steps < 18446744073709551615) × (b.taken + length readings.now ≤ 18446744073709551615) × (b.written ≤ length outputs.old) × (exit_before_of p.now 1 (b.taken + length readings.now) (length outputs.old) (standing b cells.old marks.old journal.old outputs.old) ≡ none) }
+    requires { Ready (env_of p.now sets.now) table.now × Good p.now (machine_of b.regs cells.old marks.old journal.old) × (b.steps < 18446744073709551615) × (b.taken + length readings.now ≤ 18446744073709551615) × (b.written ≤ length outputs.old) × (exit_before_of p.now 1 (b.taken + length readings.now) (length outputs.old) (standing b cells.old marks.old journal.old outputs.old) ≡ None) }
     ensures { (ρ : List ℤ) → drop b.taken ρ ≡ readings.now → b.taken ≤ length ρ → TurnIs (env_of p.now sets.now) ρ (standing b cells.old marks.old journal.old outputs.old) outputs.old result (standing result cells.new marks.new journal.new outputs.new) outputs.new }
 {
     let r = b.regs;
@@ -216,7 +181,7 @@ pub fn run(
     outputs: &mut [i32],
 ) -> Stand
     requires { Ready (env_of p.now sets.now) table.now × Good p.now (machine_of start cells.old marks.old journal.old) }
-    ensures { RunIs (env_of p.now sets.now) readings.now budget (machine_of start cells.old marks.old journal.old) outputs.old result.ended result.pass (standing result.pass cells.new marks.new journal.new outputs.new) outputs.new }
+    ensures { RunIs (env_of p.now sets.now) readings.now budget (machine_of start cells.old marks.old journal.old) outputs.old (ended_of result.ended) result.pass (standing result.pass cells.new marks.new journal.new outputs.new) outputs.new }
 {
     let mut b = Pass {
         regs: start,
@@ -227,25 +192,19 @@ pub fn run(
     loop {
         b = rush(b, budget, readings, p, cells, outputs);
         b = store_some(b, budget, p, cells, marks, journal);
-        match exit_before(b, budget - b.steps, readings.len(), outputs.len(), p) {
-            Exit::None => {
-                let t = b.taken;
-                b = turn(
-                    b,
-                    &readings[t..],
-                    p,
-                    table,
-                    sets,
-                    cells,
-                    marks,
-                    journal,
-                    outputs,
-                );
-            }
-            Exit::Stopped(k) => return ended_at(b, Ended::Stopped(k)),
-            Exit::Spent => return ended_at(b, Ended::Spent),
-            Exit::NoReading => return ended_at(b, Ended::NoReading),
-            Exit::BufferFull => return ended_at(b, Ended::BufferFull),
+        if let Some(ended) = exit_before(b, budget - b.steps, readings.len(), outputs.len(), p) {
+            return Stand { pass: b, ended };
         }
+        b = turn(
+            b,
+            &readings[b.taken..],
+            p,
+            table,
+            sets,
+            cells,
+            marks,
+            journal,
+            outputs,
+        );
     }
 }

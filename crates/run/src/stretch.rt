@@ -22,17 +22,13 @@ fn copy(journal: &mut [u8], to: usize, buffer: &[u8; 1584], from: usize, m: usiz
     requires { (to + m ≤ length journal.old) × (from + m ≤ 1584) × (length buffer.now ≡ 1584) × (length journal.old ≤ 65536) }
     ensures { journal.new ≡ sets journal.old to (take m (drop from buffer.now)) }
 {
-    let mut i: usize = 0;
-    while i < m {
-        journal[to + i] = buffer[from + i];
-        i += 1;
-    }
+    journal[to..to + m].copy_from_slice(&buffer[from..from + m]);
 }
 
 fn least(a: usize, b: u64) -> usize
     ensures { result ≡ min a b }
 {
-    if b < a as u64 { b as usize } else { a }
+    (a as u64).min(b) as usize
 }
 
 // Makes the checkpoint of the present state, and gives its length.
@@ -80,10 +76,7 @@ pub fn store_some(
     ensures { StoreIs p.now budget cells.now b marks.old journal.old result marks.new journal.new }
 {
     let r = b.regs;
-    if r.stop != 0 {
-        return b;
-    }
-    if r.saving == 0 {
+    if r.stop != 0 || r.saving == 0 {
         return b;
     }
     let page = r.page;

@@ -13,13 +13,14 @@ use Rattle.instruction.specs.Bytes.{byte, cells_of, length_of, instruction_at_of
 use Rattle.instruction.specs.Table.{Table, no_table_of, table_at, row_of, fits_in_of, table_fits_of}
 use Rattle.instruction.specs.declared.Instruction.{Instruction}
 use Rattle.program.specs.Starts.{starts}
-use Rattle.program.specs.Places.{is_start, is_exclude, exclude_number, entry_at, read_place}
-use Rattle.program.specs.declared.places.Place.{Place}
+use Rattle.std.specs.Prelude.{Some}
+use Rattle.program.specs.Places.{Place, is_start, is_exclude, exclude_number, entry_at, numbered, read_place}
+use Rattle.program.specs.declared.places.Place as code
 use Rattle.program.proofs.Tests.{bool_cases, clash, and_both}
 use Rattle.program.proofs.Filling.{none-past}
 use Rattle.program.proofs.Accepted.{Accepted, accepted, start-whole, start-cells}
 use Rattle.program.proofs.AfterLaws.{exclude-below}
-use Rattle.program.proofs.PlaceLaws.{place_read}
+use Rattle.program.proofs.PlaceLaws.{place_read, more-some}
 use Rattle.execution.specs.Plain.{Fetches}
 use Rattle.step.specs.State.{Env}
 use Rattle.step.specs.Ready.{Ready}
@@ -78,5 +79,15 @@ module _ {e : Env} {table : List ℕ} (r : Ready e table) where
       omega arith
 
   -- the table has its number; q is what is read there
-  pub exclude-number : (o : ℕ) {q : Place} → is_exclude e.program o ≡ true → q ≡ read_place (entry_at table o) → q.exclude ≡ exclude_number e.program o + 1
-  exclude-number o h d = ap (λ (s : Place). s.exclude) (d ∙ place_read e.program table r.places o) ∙ rw h
+  exclude-more : (o : ℕ) {q : Place} → is_exclude e.program o ≡ true → q ≡ read_place (entry_at table o) → q.exclude ≡ exclude_number e.program o + 1
+  exclude-more o h d = ap (λ (s : Place). s.exclude) (d ∙ place_read e.program table r.places o) ∙ rw h
+
+  pub exclude-number : (o : ℕ) (q : code.Place) → is_exclude e.program o ≡ true → numbered q ≡ read_place (entry_at table o) → q.exclude ≡ Some (exclude_number e.program o)
+  exclude-number o q h d = more-some q.exclude _ (exclude-more o h d)
+
+  -- m is what was unwrapped of it
+  pub exclude-read : (o : ℕ) {q : code.Place} {k m : ℕ} → is_exclude e.program o ≡ true → numbered q ≡ read_place (entry_at table o) → q.exclude ≡ Some k → m ≡ k
+      → m ≡ exclude_number e.program o
+  exclude-read o {q} {k} h d u f =
+      let s : Some k ≡ Some (exclude_number e.program o) = sym u ∙ exclude-number o q h d in
+      f ∙ cc

@@ -10,7 +10,10 @@ use native.Mathlib.Omega.{arith}
 use borrow.Author.Tests.{eq-eqb, ne_eqb, lt-ltb, le-ltb}
 use lib.Dec.{eqb, leb}
 use lib.IntN.{ℤ}
-use lib.ListN.{length, get_or, set, take, drop, replicate, length-set, length-append, length-replicate}
+use lib.ListN.{length, get_or, set, take, drop, replicate, length-append, length-replicate}
+use Rattle.std.proofs.Common.{length-drop, append-nil, append_assoc, drop-drop}
+use Rattle.std.proofs.lemmas.List.{length-take-le, drop_all}
+use borrow.Rule.Slice.PartMut.{put_mid, mid_of}
 use lib.Seq as seq
 use mir.Syntax.{w16, w32}
 use mir.Val.{Fits}
@@ -52,67 +55,59 @@ erasable {p} {m} g h =
     let f = (sound-facts g.sound).paged in
     omega (arith, whole-next m.regs.page 0 m.regs.erase (whole-none m.regs.page) f.erase h)
 
--- ---- n bytes stored one by one
+-- ---- n bytes stored
 
--- `erase_bytes`: what is still to be stored leaves what all of it leaves
-pub record Erasing (from n : ℕ) (l₀ l : List ℕ) (i : ℕ) : Type 0 where
-  pub size : length l ≡ length l₀
-  pub below : i ≤ n
-  pub rest : seq.sets l (from + i) (replicate (n - i) 0xFF) ≡ seq.sets l₀ from (replicate n 0xFF)
+-- a part of a list that is written whole
+pub sets-put : (l vs : List ℕ) (a k : ℕ) {ys : List ℕ} → ys ≡ vs → length vs ≡ k → a + k ≤ length l → put_mid a k l ys ≡ seq.sets l a vs
+sets-put l vs a k e n h = let m : a + length vs ≤ length l = omega arith in rw (e, seq.sets-eq vs l a m, n, drop-drop) (simp append_assoc)
 
-pub erasing-first : (from n : ℕ) (l : List ℕ) → Erasing from n l l 0
-erasing-first from n l = record { size = refl; below = omega arith; rest = rw (add-zero from, sub-zero n) }
+-- it has the length that its ends say
+pub length-part : (l : List ℕ) (a n : ℕ) → a + n ≤ length l → length (mid_of a (a + n - a) l) ≡ n
+length-part l a n h = let k : a + n - a ≡ n = omega arith in rw (k, length-take-le n (drop a l) (omega (arith, length-drop a l)))
 
-module _ {from n : ℕ} {l₀ l : List ℕ} {i : ℕ} (q : Erasing from n l₀ l i) where
-  pub erasing-turn : i < n → Erasing from n l₀ (set l (from + i) 0xFF) (i + 1)
-  erasing-turn h =
-      let a : from + (i + 1) ≡ suc (from + i) = omega arith in
-      let k : n - i ≡ suc (n - (i + 1)) = omega arith in
-      record { size = length-set l (from + i) 0xFF ∙ q.size; below = omega arith; rest = rw a (rw k at q.rest) }
-
-  pub erasing-done : n ≤ i → l ≡ seq.sets l₀ from (replicate n 0xFF)
-  erasing-done h = let k : n - i ≡ 0 = omega arith in rw k at q.rest
-
--- `put_bytes`: the same of the bytes of b from `from` on, where `byte` has them, and FF past the end of its image
-pub record Putting (to from n : ℕ) (image l₀ l : List ℕ) (i : ℕ) : Type 0 where
-  pub size : length l ≡ length l₀
-  pub below : i ≤ n
+-- `put_bytes`: what is still to be stored leaves what all of it leaves, of the bytes of b from `from` on, where `byte` has them, and FF past the end of its image
+pub record Putting (from n : ℕ) (image l₀ l : List ℕ) (i : ℕ) : Type 0 where
   pub rest : (f : ℕ) → from + n ≤ length image + f
-      → seq.sets l (to + i) (take (n - i) (drop (from + i) (image ++ replicate f 0xFF))) ≡ seq.sets l₀ to (take n (drop from (image ++ replicate f 0xFF)))
+      → seq.sets l i (take (n - i) (drop (from + i) (image ++ replicate f 0xFF))) ≡ seq.sets l₀ 0 (take n (drop from (image ++ replicate f 0xFF)))
 
-pub putting-first : (to from n : ℕ) (image l : List ℕ) → Putting to from n image l l 0
-putting-first to from n image l =
-    record { size = refl; below = omega arith; rest = λ f h. rw (add-zero to, add-zero from, sub-zero n) }
+pub putting-first : (from n : ℕ) (image l : List ℕ) → Putting from n image l l 0
+putting-first from n image l = record { rest = λ f h. rw (add-zero from, sub-zero n) }
 
-module _ {to from n : ℕ} {image l₀ l : List ℕ} {i : ℕ} (q : Putting to from n image l₀ l i) where
-  pub putting-turn : i < n → {x : ℕ} → x ≡ get_or image (from + i) 0xFF → Putting to from n image l₀ (set l (to + i) x) (i + 1)
+module _ {from n : ℕ} {image l₀ l : List ℕ} {i : ℕ} (q : Putting from n image l₀ l i) where
+  pub putting-turn : i < n → {x : ℕ} → x ≡ get_or image (from + i) 0xFF → Putting from n image l₀ (set l i x) (i + 1)
   putting-turn h {x} e =
-      let a : to + (i + 1) ≡ suc (to + i) = omega arith in
+      let a : i + 1 ≡ suc i = omega arith in
       let b : from + (i + 1) ≡ suc (from + i) = omega arith in
-      let k : n - i ≡ suc (n - (i + 1)) = omega arith in
+      let k : n - i ≡ suc (n - suc i) = omega arith in
       record {
-        size = length-set l (to + i) x ∙ q.size;
-        below = omega arith;
         rest = λ f g.
             let stored = image ++ replicate f 0xFF in
             let z : length (replicate {A = ℕ} f 0xFF) ≡ f = length-replicate f 0xFF in
             let d : from + i < length stored = omega (arith, length-append image (replicate f 0xFF)) in
             let y : get_or stored (from + i) 0xFF ≡ x = ff-behind image f (from + i) ∙ sym e in
-            rw (a, b) (rw (k, seq.drop-cons stored (from + i) 0xFF d, y) at (q.rest f g));
+            rw (b, a) (rw (k, seq.drop-cons stored (from + i) 0xFF d, y) at (q.rest f g));
       }
 
-  pub putting-done : n ≤ i → (f : ℕ) → from + n ≤ length image + f → l ≡ seq.sets l₀ to (take n (drop from (image ++ replicate f 0xFF)))
+  pub putting-done : n ≤ i → (f : ℕ) → from + n ≤ length image + f → l ≡ seq.sets l₀ 0 (take n (drop from (image ++ replicate f 0xFF)))
   putting-done h f g = let k : n - i ≡ 0 = omega arith in rw k at (q.rest f g)
 
 -- what is stored of a checkpoint
-pub put-page : (G : Format) (s values : List ℕ) (c : Commit) (to from n : ℕ) (l₀ : List ℕ) {l : List ℕ}
+pub put-page : (G : Format) (s values : List ℕ) (c : Commit) (to from n : ℕ) (l : List ℕ) {ys : List ℕ}
     → ((f : ℕ) → from + n ≤ length (image G (checkpoint_of s values c)) + f
-    → l ≡ seq.sets l₀ to (take n (drop from (image G (checkpoint_of s values c) ++ replicate f 0xFF))))
-    → from + n ≤ length (padded G (checkpoint_of s values c))
-    → l ≡ seq.sets l₀ to (take n (drop from (padded G (checkpoint_of s values c))))
+    → ys ≡ seq.sets (mid_of to (to + n - to) l) 0 (take n (drop from (image G (checkpoint_of s values c) ++ replicate f 0xFF))))
+    → to + n ≤ length l → from + n ≤ length (padded G (checkpoint_of s values c))
+    → put_mid to (to + n - to) l ys ≡ seq.sets l to (take n (drop from (padded G (checkpoint_of s values c))))
 unfolding padded
-put-page G s values c to from n l₀ h g =
-    h (fill_of G.page (length (image G (checkpoint_of s values c)))) (omega (arith, padded-length G (checkpoint_of s values c)))
+put-page G s values c to from n l h r g =
+    let f = fill_of G.page (length (image G (checkpoint_of s values c))) in
+    let b = padded G (checkpoint_of s values c) in
+    let part = mid_of to (to + n - to) l in
+    let vs = take n (drop from b) in
+    let v : length vs ≡ n = length-take-le n (drop from b) (omega (arith, length-drop from b)) in
+    let p : length part ≡ n = length-part l to n r in
+    let m : 0 + length vs ≤ length part = omega arith in
+    let e : seq.sets part 0 vs ≡ vs = rw (seq.sets-eq vs part 0 m, drop_all (0 + length vs) part (omega arith), append-nil) in
+    sets-put l vs to (to + n - to) (h f (omega (arith, padded-length G (checkpoint_of s values c))) ∙ e) (omega arith) (omega arith)
 
 -- ---- the instruction, by its effect
 
@@ -150,13 +145,6 @@ halts e v m k is = performs e v m (stops k) is refl refl refl refl refl refl ref
 -- ---- by its opcode
 
 -- EMIT's registers
-pub emit-full : (r : Regs) {s : Regs} → r.outputs ≡ 4294967295 → s ≡ halted r 3 → s ≡ emitted r
-emit-full r h es = es ∙ rw h
-
-pub emit-gives : (r : Regs) {t : ℕ} → (r.outputs ≡ 4294967295 → ⊥) → t ≡ r.pc + length_of 0x08
-    → on_program r t r.exclude r.readings (r.outputs + 1) r.stop ≡ emitted r
-emit-gives r h et = rw (ne_eqb _ _ h, et)
-
 module _ (p ws : List ℕ) (v : ℤ) (r : Regs) (xs ms l : List ℕ) where
   -- READ
   read-effect : byte p r.pc ≡ 0x07
@@ -195,10 +183,10 @@ module _ (p ws : List ℕ) (v : ℤ) (r : Regs) (xs ms l : List ℕ) where
   exclude-effect q = rw q
 
   pub excludes : {t n k : ℕ} {zs : List ℕ} → byte p r.pc ≡ 0x0D → r.stop ≡ 0 → t ≡ r.pc + length_of 0x0D → n ≡ cells_of p
-      → k ≡ exclude_number p r.pc + 1 → zs ≡ excluded_marks ws (8 * (k - 1)) n ms
+      → k ≡ exclude_number p r.pc → zs ≡ excluded_marks ws (8 * k) n ms
       → machine_of (on_program r t r.pc r.readings r.outputs r.stop) xs zs l ≡ executed_of (env_of p ws) v (machine_of r xs ms l)
   excludes {t} {n} {k} q z et en ek ez =
-      let ea : 8 * (k - 1) ≡ 8 * exclude_number p r.pc = omega arith in
+      let ea : 8 * k ≡ 8 * exclude_number p r.pc = omega arith in
       performs (env_of p ws) v (machine_of r xs ms l) sets (exclude-effect q) refl
       (rw q et) refl refl refl z refl (rw (← ea, ← en) ez)
 

@@ -10,7 +10,7 @@ use borrow.Author.Tests.{ltb-true, ltb-false}
 use Rattle.program.specs.Check.{check_of}
 use Rattle.program.specs.Starts.{starts}
 use Rattle.program.specs.Places.{place_of, entry_at, Places}
-use Rattle.program.specs.declared.Checked.TheVariants.{Program}
+use Rattle.program.specs.Check.{Program}
 use Rattle.program.proofs.Tests.{bool_cases}
 use Rattle.program.proofs.Accepted.{accepted}
 use Rattle.program.proofs.Filling.{none-past}

@@ -5,7 +5,7 @@ use Rattle.instruction.specs.Bytes.{length_of}
 use Rattle.execution.specs.Effects.{is_full, count_full}
 use Rattle.program.specs.Check.{check_of}
 use Rattle.program.specs.Places.{Places}
-use Rattle.program.specs.declared.Checked.TheVariants.{Program}
+use Rattle.program.specs.Check.{Program}
 use Rattle.step.specs.State.{Env, Machine, sound_of}
 use Rattle.step.specs.declared.Regs.{Regs}
 

@@ -8,7 +8,7 @@ pub mod sound;
 
 ghost use Rattle.std.specs.Prelude.{◌≡◌, List, ℕ, ◌+◌, ◌<◌, ◌≤◌, ℤ, length, take, drop, replicate, true};
 ghost use Rattle.std.proofs.lemmas.List.Edits.{sets};
-ghost use Rattle.journal.specs.Format.{format_of, padded};
+ghost use Rattle.journal.specs.Format.{format_of, kind_number, padded};
 ghost use Rattle.journal.specs.Writing.{checkpoint_of};
 ghost use Rattle.instruction.specs.Bytes.{byte, cells_of};
 ghost use Rattle.program.specs.Places.{is_exclude};
@@ -20,7 +20,7 @@ use cellset::CellSet;
 use execution::{after, plain, put_cell};
 use instruction::byte_at;
 use instruction::opcodes::{CHECKPOINT, DIV, EMIT, EXCLUDE, READ};
-use journal::owners::kind_of;
+use journal::owners::{Kind, kind_of};
 use journal::writing::{fits, image_byte, size};
 use journal::{Commit, ERASED};
 use marks::{exclude, keep, stored_cells};
@@ -32,6 +32,7 @@ use word::to_bits;
 // than the bytes stored of the save at work. The last two are no part of the state that a host lends: they
 // say for which kind of chip the call is, by the bytes that a step stores or erases, 1 for the byte chip and
 // 16 for the page chip, and the owner that its MARKs name, 0 for the MARKs of document 01, which name none.
+// `exclude`, `stop` and `saving` are numbers, and no enum or Option, as the host's state has them (docs/STATE.md).
 #[derive(Clone, Copy)]
 pub struct Regs {
     pub pc: u32,
@@ -55,7 +56,7 @@ pub struct State {
 }
 
 // The greatest count of readings or outputs.
-const MOST: u32 = 0xffff_ffff;
+const MOST: u32 = u32::MAX;
 
 // The kind of stop at END; 0 is not stopped.
 const ENDED: u32 = 1;
@@ -63,7 +64,7 @@ const ENDED: u32 = 1;
 // The kind of stop at a division by 0.
 const DIVISOR: u32 = 2;
 
-// The kind of stop at a READ or EMIT whose count is full.
+// The kind of stop at a READ or EMIT whose count is full, the last kind.
 const COUNT_FULL: u32 = 3;
 
 // How many cells the program has.
@@ -73,27 +74,14 @@ pub fn cell_count(p: &[u8]) -> usize
     byte_at(p, 0) as usize + 1
 }
 
-// n bytes are erased, from `from` on.
-fn erase_bytes(journal: &mut [u8], from: usize, n: usize)
-    requires { (from + n ≤ length journal.old) × (length journal.old ≤ 65536) }
-    ensures { journal.new ≡ sets journal.old from (replicate n 0xFF) }
-{
-    let mut i: usize = 0;
-    while i < n {
-        journal[from + i] = ERASED;
-        i += 1;
-    }
-}
-
 // The highest torn page is erased.
 fn erase_one(mut r: Regs, journal: &mut [u8]) -> Regs
     requires { (r.page ≤ r.erase) × (r.write + r.erase ≤ length journal.old) × (length journal.old ≤ 65536) }
     ensures { (xs ms : List ℕ) → machine_of result xs ms journal.new ≡ erased_of (machine_of r xs ms journal.old) }
 {
-    let page = r.page;
-    let left = r.erase - page as u32;
-    erase_bytes(journal, (r.write + left) as usize, page);
-    r.erase = left;
+    r.erase -= r.page as u32;
+    let from = (r.write + r.erase) as usize;
+    journal[from..from + r.page].fill(ERASED);
     r
 }
 
@@ -104,17 +92,15 @@ fn put_bytes(
     s: CellSet,
     cells: &[u32; 256],
     commit: Commit,
-    kind: usize,
+    kind: Kind,
     from: usize,
     n: usize,
 )
-    requires { (to + n ≤ length journal.old) × (length journal.old ≤ 65536) × (from + n ≤ 65536) × (kind ≤ 1) }
-    ensures { (page owner : ℕ) → from + n ≤ length (padded (format_of page kind owner) (checkpoint_of s.words cells.now commit)) → journal.new ≡ sets journal.old to (take n (drop from (padded (format_of page kind owner) (checkpoint_of s.words cells.now commit)))) }
+    requires { (to + n ≤ length journal.old) × (length journal.old ≤ 65536) × (from + n ≤ 65536) }
+    ensures { (page owner : ℕ) → from + n ≤ length (padded (format_of page (kind_number kind) owner) (checkpoint_of s.words cells.now commit)) → journal.new ≡ sets journal.old to (take n (drop from (padded (format_of page (kind_number kind) owner) (checkpoint_of s.words cells.now commit)))) }
 {
-    let mut i: usize = 0;
-    while i < n {
-        journal[to + i] = image_byte(s, cells, commit, kind, from + i);
-        i += 1;
+    for (i, byte) in journal[to..to + n].iter_mut().enumerate() {
+        *byte = image_byte(s, cells, commit, kind, from + i);
     }
 }
 
@@ -210,8 +196,8 @@ fn exclude_all(
     ensures { (v : ℤ) (xs l : List ℕ) → machine_of result xs marks.new l ≡ executed_of (env_of p.now sets.now) v (machine_of r xs marks.old l) }
 {
     let at = r.pc as usize;
-    let number = place_at(table, at).exclude as usize;
-    exclude(marks, sets, 8 * (number - 1), cell_count(p));
+    let number = place_at(table, at).exclude.unwrap();
+    exclude(marks, sets, 8 * usize::from(number), cell_count(p));
     r.exclude = r.pc;
     r.pc = after(at, EXCLUDE);
     r
@@ -231,7 +217,7 @@ fn begin_save(mut r: Regs, p: &[u8], marks: &[u8; 256], journal: &[u8]) -> Regs
     r
 }
 
-// The instruction at the place; v is the next reading.
+// The instruction at the place; v is the next reading. A match on the opcode, as in `plain`.
 fn execute(
     mut r: Regs,
     p: &[u8],

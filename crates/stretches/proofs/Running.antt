@@ -13,8 +13,8 @@ use lib.Seq.{sets, take-append-le, length-take-le}
 use Rattle.program.proofs.Tests.{bool_cases}
 use Rattle.step.specs.State.{Env, Machine}
 use Rattle.run.specs.Run.{Call, Finish, Outcome, outcome, outcome_of, refused_with, started, run_of, refusal_of, call_of, answer_of}
-use Rattle.run.specs.declared.Ended.{Ended}
-use Rattle.run.specs.declared.Ended.TheVariants.{Refused}
+use Rattle.run.specs.Run.{Ended}
+use Rattle.run.specs.Run.{Refused}
 use Rattle.run.proofs.Laws.{Exits, stopped, spent, no_reading, buffer_full, run-exit, given-within}
 use Rattle.run.proofs.Accepting.{outputs-first}
 use Rattle.layout.specs.Numbers.{signed_from, signed_of, signed_bytes}
@@ -108,6 +108,11 @@ unfolding signed_of
 loaded r t n h k =
     let z : 0 + 4 * t ≡ 4 * t = omega arith in
     ap (take n) (signed-drop t (length r / 4) r 0 h) ∙ signed-take n (length r / 4 - t) r (0 + 4 * t) k ∙ ap (signed_from n r) z
+
+-- of no output nothing is stored
+pub none-stored : (b : List ℕ) (at : ℕ) → b ≡ sets b at (signed_bytes [])
+unfolding signed_bytes
+none-stored b at = refl
 
 -- a buffer holds a number for four bytes
 pub signed-of-length : (b : List ℕ) → length (signed_of b) ≡ length b / 4

@@ -13,8 +13,8 @@ use lib.Seq.{length-take-le}
 use Rattle.program.proofs.Tests.{bool_cases, clash}
 use Rattle.step.specs.State.{Env, Machine}
 use Rattle.run.specs.Run.{Call, Finish, started, stepped, run_of, refusal_of}
-use Rattle.run.specs.declared.Ended.{Ended}
-use Rattle.run.specs.declared.Ended.TheVariants.{Refused}
+use Rattle.run.specs.Run.{Ended}
+use Rattle.run.specs.Run.{Refused}
 use Rattle.run.proofs.Laws.{Exits, stopped, spent, no_reading, buffer_full, exit-none, makes-step, run_ends, run-ind, steps-within}
 use Rattle.run.proofs.Laws.{stretch-both, stretch-both-else, taken-within, given-within, onto, finish_onto, onto-started, run-onto, begun-afresh}
 use Rattle.run.proofs.Accepting.{not-refused, accepts, accepts-run}

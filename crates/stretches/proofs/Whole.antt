@@ -9,12 +9,13 @@ use lib.IntN.{ℤ}
 use lib.ListN.{length, take, length-append}
 use lib.Seq.{sets, length-sets}
 use Rattle.step.specs.State.{Env, Machine}
-use Rattle.run.specs.Run.{Call, Finish, outcome, outcome_of, started}
-use Rattle.run.specs.declared.Ended.{Ended}
+use Rattle.run.specs.Run.{Call, Finish, Outcome, outcome, outcome_of, refused_with, started, refusal_of, answer_of}
+use Rattle.run.specs.Run.{Ended}
+use Rattle.run.specs.Run.{Refused}
 use Rattle.layout.specs.Numbers.{signed_of, signed_bytes}
 use Rattle.layout.proofs.Laws.{stores-join, signed-bytes-append, signed-bytes-length}
-use Rattle.stretches.specs.Stretches.{goes_on_of, StretchIs, WholeIs}
-use Rattle.stretches.proofs.Running.{resumed, call-is, finish_in, stretch-run, stretch-given, signed-of-length}
+use Rattle.stretches.specs.Stretches.{goes_on_of, StretchIs, WholeIs, WholeOf}
+use Rattle.stretches.proofs.Running.{resumed, call-is, call-number, call-refused, finish_in, stretch-run, stretch-given, signed-of-length}
 use Rattle.stretches.proofs.Stretches.{Standing, Joins, joins}
 
 -- where a call stands, with the outputs given so far
@@ -102,3 +103,25 @@ module _ {e : Env} {ρ : List ℤ} {budget : ℕ} {m₀ : Machine} {b₀ : List 
               ∙ sym (call-is e ρ budget m₀ places);
           stored = stored_on;
         }
+
+-- a refused stretch is the first, and leaves all as it was lent
+module _ {e : Env} {ρ : List ℤ} {budget : ℕ} {m₀ : Machine} {b₀ : List ℕ} {m₁ : Machine} {s₁ t₁ w₁ : ℕ} {b₁ : List ℕ} {n : ℕ} {m : Machine} {b : List ℕ}
+    (h : Stands e ρ budget m₀ b₀ m₁ s₁ t₁ w₁ b₁) (s : StretchIs e ρ (budget - s₁) t₁ w₁ m₁ b₁ (Refused n) m 0 0 0 b) (some : ¬ (n ≡ 0)) where
+  ended_here : WholeIs e ρ budget m₀ b₀ (Refused n) m (s₁ + 0) (t₁ + 0) (w₁ + 0) b
+  ended_here = stands-ends h s refl refl
+
+  as_lent : outcome (Refused n) m (s₁ + 0) (t₁ + 0) (w₁ + 0) (sets (signed_of b₀) 0 ended_here.given) ≡ refused_with (refusal_of e m₀) m₀ (signed_of b₀)
+  as_lent =
+      let called = ended_here.is (signed_of b₀) (signed-of-length b₀) in
+      called
+      ∙ call-refused e ρ budget m₀ (signed_of b₀)
+      (λ z. some (ap (λ (o : Outcome). (answer_of o.ended).number) called ∙ call-number e ρ budget m₀ (signed_of b₀) ∙ z))
+
+  pub stands-refused : (m ≡ m₀) × WholeIs e ρ budget m₀ b₀ (Refused n) m 0 0 0 b
+  stands-refused =
+      let steps = ap (λ (o : Outcome). o.steps) as_lent in
+      let taken = ap (λ (o : Outcome). o.taken) as_lent in
+      let written = ap (λ (o : Outcome). o.written) as_lent in (
+        ap (λ (o : Outcome). o.machine) as_lent,
+        subst (λ (o : Outcome). WholeOf e ρ budget m₀ b₀ o b) (λ i. outcome (Refused n) m (steps i) (taken i) (written i) []) ended_here,
+      )

@@ -3,15 +3,17 @@
 // run over all (proofs/Stretches.antt).
 #![tactic(auto)]
 
-ghost use Rattle.std.specs.Prelude.{◌≡◌, ◌+◌, ◌-◌, ◌/◌, ◌≤◌, ◌<◌, length};
+ghost use Rattle.std.specs.Prelude.{[], ◌≡◌, ◌+◌, ◌-◌, ◌/◌, ◌≤◌, ◌<◌, length};
 ghost use Rattle.program.specs.Places.{Places};
 ghost use Rattle.step.specs.State.{env_of, machine_of};
 ghost use Rattle.step.specs.Ready.{Legal};
 ghost use Rattle.run.specs.Standing.{Within};
 ghost use Rattle.layout.specs.Numbers.{signed_of};
-ghost use Rattle.stretches.specs.Stretches.{Lends, goes_on_of, StretchIs, WholeIs};
+ghost use Rattle.run.specs.Run.{ended_of, stood};
+ghost use Rattle.stretches.specs.Stretches.{Lends, goes_on_of, StretchOf, WholeOf};
 
 use layout::{load_signed, store_signed};
+use program::refusal::Refusal;
 use run::{Ended, Pass, Stand, run_in_place};
 use step::Regs;
 
@@ -20,14 +22,7 @@ fn at_most(rest: usize, budget: u64, room: usize) -> usize
     requires { 0 < room }
     ensures { Lends rest budget result × (result ≤ room) }
 {
-    let mut n = rest;
-    if room < n {
-        n = room;
-    }
-    if budget < n as u64 {
-        n = budget as usize;
-    }
-    n
+    (rest.min(room) as u64).min(budget) as usize
 }
 
 // One stretch of a run that stands at `b`: over the readings behind those taken and the places behind those written,
@@ -45,9 +40,9 @@ fn stretch(
     budget: u64,
     values: &mut [i32],
     places: &mut [i32],
-) -> Stand
+) -> Result<Stand, Refusal>
     requires { Legal plan.now × Places plan.now table.now × (length cells.old ≡ 256) × (length marks.old ≡ 256) × (0 < length values.old) × (0 < length places.old) × Within b budget (length readings.now / 4) (length outputs.old / 4) }
-    ensures { StretchIs (env_of plan.now sets.now) (signed_of readings.now) (budget - b.steps) b.taken b.written (machine_of b.regs cells.old marks.old chip.old) outputs.old result.ended (machine_of result.pass.regs cells.new marks.new chip.new) result.pass.steps result.pass.taken result.pass.written outputs.new }
+    ensures { StretchOf (env_of plan.now sets.now) (signed_of readings.now) (budget - b.steps) b.taken b.written (machine_of b.regs cells.old marks.old chip.old) outputs.old (stood b.regs result cells.new marks.new chip.new []) outputs.new }
 {
     let left = budget - b.steps;
     let n = at_most(readings.len() / 4 - b.taken, left, values.len());
@@ -64,20 +59,17 @@ fn stretch(
         &values[..n],
         &mut places[..m],
         left,
-    );
+    )?;
     store_signed(outputs, 4 * b.written, places, ran.pass.written);
-    ran
+    Ok(ran)
 }
 
 // Whether a run that stands so goes on with the next stretch: a reading is left, or a place.
 fn goes_on(at: Stand, readings: usize, places: usize) -> bool
-    ensures { result ≡ goes_on_of at.ended readings at.pass.taken places at.pass.written }
+    ensures { result ≡ goes_on_of (ended_of at.ended) readings at.pass.taken places at.pass.written }
 {
-    let ended = at.ended;
-    match ended {
-        Ended::Refused(_) => false,
-        Ended::Stopped(_) => false,
-        Ended::Spent => false,
+    match at.ended {
+        Ended::Stopped(_) | Ended::Spent => false,
         Ended::NoReading => at.pass.taken < readings,
         Ended::BufferFull => at.pass.written < places,
     }
@@ -88,12 +80,13 @@ fn joined(b: Pass, next: Stand) -> Stand
     requires { (b.steps + next.pass.steps ≤ 18446744073709551615) × (b.taken + next.pass.taken ≤ 18446744073709551615) × (b.written + next.pass.written ≤ 18446744073709551615) }
     ensures { result ≡ record { pass = record { regs = next.pass.regs; steps = b.steps + next.pass.steps; taken = b.taken + next.pass.taken; written = b.written + next.pass.written }; ended = next.ended } }
 {
-    let mut pass = next.pass;
-    pass.steps = b.steps + pass.steps;
-    pass.taken = b.taken + pass.taken;
-    pass.written = b.written + pass.written;
-    let ended = next.ended;
-    Stand { pass, ended }
+    let pass = Pass {
+        steps: b.steps + next.pass.steps,
+        taken: b.taken + next.pass.taken,
+        written: b.written + next.pass.written,
+        ..next.pass
+    };
+    Stand { pass, ..next }
 }
 
 // Stretch after stretch, through the buffers `values` and `places`.
@@ -110,9 +103,9 @@ fn run_by(
     budget: u64,
     values: &mut [i32],
     places: &mut [i32],
-) -> Stand
+) -> Result<Stand, Refusal>
     requires { Legal plan.now × Places plan.now table.now × (length cells.old ≡ 256) × (length marks.old ≡ 256) × (0 < length values.old) × (0 < length places.old) }
-    ensures { WholeIs (env_of plan.now sets.now) (signed_of readings.now) budget (machine_of regs cells.old marks.old chip.old) outputs.old result.ended (machine_of result.pass.regs cells.new marks.new chip.new) result.pass.steps result.pass.taken result.pass.written outputs.new × (length cells.new ≡ 256) × (length marks.new ≡ 256) }
+    ensures { WholeOf (env_of plan.now sets.now) (signed_of readings.now) budget (machine_of regs cells.old marks.old chip.old) outputs.old (stood regs result cells.new marks.new chip.new []) outputs.new × (length cells.new ≡ 256) × (length marks.new ≡ 256) }
 {
     let n = readings.len() / 4;
     let m = outputs.len() / 4;
@@ -125,36 +118,18 @@ fn run_by(
     loop {
         let next = stretch(
             b, plan, table, sets, cells, marks, chip, readings, outputs, budget, values, places,
-        );
+        )?;
         let at = joined(b, next);
         if !goes_on(at, n, m) {
-            return at;
+            return Ok(at);
         }
         b = at.pass;
     }
 }
 
-fn short_buffer() -> [i32; 16]
-    ensures { length result ≡ 16 }
-{
-    [0i32; 16]
-}
-
-fn long_buffer() -> [i32; 1024]
-    ensures { length result ≡ 1024 }
-{
-    [0i32; 1024]
-}
-
 // Whether short buffers do: the budget is used up with them, or they hold all.
 fn is_short(readings: usize, outputs: usize, budget: u64) -> bool {
-    if budget <= 16 {
-        return true;
-    }
-    if 64 < readings {
-        return false;
-    }
-    outputs <= 64
+    budget <= 16 || (readings <= 64 && outputs <= 64)
 }
 
 // The run over all, through buffers that are no longer than need be: clearing them is most of what a call of one step
@@ -170,14 +145,14 @@ pub fn run_all(
     readings: &[u8],
     outputs: &mut [u8],
     budget: u64,
-) -> Stand
+) -> Result<Stand, Refusal>
     requires { Legal plan.now × Places plan.now table.now × (length cells.old ≡ 256) × (length marks.old ≡ 256) }
-    ensures { WholeIs (env_of plan.now sets.now) (signed_of readings.now) budget (machine_of regs cells.old marks.old chip.old) outputs.old result.ended (machine_of result.pass.regs cells.new marks.new chip.new) result.pass.steps result.pass.taken result.pass.written outputs.new × (length cells.new ≡ 256) × (length marks.new ≡ 256) }
+    ensures { WholeOf (env_of plan.now sets.now) (signed_of readings.now) budget (machine_of regs cells.old marks.old chip.old) outputs.old (stood regs result cells.new marks.new chip.new []) outputs.new × (length cells.new ≡ 256) × (length marks.new ≡ 256) }
 {
     if is_short(readings.len(), outputs.len(), budget) {
-        let mut values = short_buffer();
-        let mut places = short_buffer();
-        return run_by(
+        let mut values = [0i32; 16];
+        let mut places = [0i32; 16];
+        run_by(
             regs,
             plan,
             table,
@@ -188,24 +163,25 @@ pub fn run_all(
             readings,
             outputs,
             budget,
-            &mut values[..],
-            &mut places[..],
-        );
+            &mut values,
+            &mut places,
+        )
+    } else {
+        let mut values = [0i32; 1024];
+        let mut places = [0i32; 1024];
+        run_by(
+            regs,
+            plan,
+            table,
+            sets,
+            cells,
+            marks,
+            chip,
+            readings,
+            outputs,
+            budget,
+            &mut values,
+            &mut places,
+        )
     }
-    let mut values = long_buffer();
-    let mut places = long_buffer();
-    run_by(
-        regs,
-        plan,
-        table,
-        sets,
-        cells,
-        marks,
-        chip,
-        readings,
-        outputs,
-        budget,
-        &mut values[..],
-        &mut places[..],
-    )
 }

@@ -1,33 +1,17 @@
 // Rows about recovery, which reads the chip. A row gives the number of the answer and, where the state is restored, its
 // write position, bytes to erase, place, last EXCLUDE, readings and outputs, and the values of cells 0 to 2.
-use crate::runs::state;
+use crate::runs::{number, state};
 use journal::owners::owner_of;
-use recovery::{Recovered, recover_value};
+use recovery::recover_value;
 use std::io;
 use step::State;
-
-fn number(rt: &impl Print, n: u64) -> io::Result<()> {
-    print!(rt; " {n}")
-}
-
-// A cell's value.
-fn value(rt: &impl Print, n: u32) -> io::Result<()> {
-    number(rt, n as u64)
-}
 
 fn restored(rt: &impl Print, s: State) -> io::Result<()> {
     let regs = s.regs;
     let cells = s.cells;
-    number(rt, 0)?;
-    number(rt, regs.write as u64)?;
-    number(rt, regs.erase as u64)?;
-    number(rt, regs.pc as u64)?;
-    number(rt, regs.exclude as u64)?;
-    number(rt, regs.readings as u64)?;
-    number(rt, regs.outputs as u64)?;
-    value(rt, cells[0])?;
-    value(rt, cells[1])?;
-    value(rt, cells[2])
+    print!(rt; " 0 {} {} {}", regs.write, regs.erase, regs.pc)?;
+    print!(rt; " {} {} {}", regs.exclude, regs.readings, regs.outputs)?;
+    print!(rt; " {} {} {}", cells[0], cells[1], cells[2])
 }
 
 // The rest of a row, behind its name. Nothing of the lent state may remain; the words of DE and RO decide the marks
@@ -37,9 +21,9 @@ fn answer(rt: &impl Print, plan: &[u8], chip: &[u8]) -> io::Result<()> {
     let owner = owner_of(plan);
     let found = recover_value(state(plan, 9, 9, 9), plan, &words, chip, 1, owner);
     rt.write_all(b":")?;
-    match found.answer {
-        Recovered::Restored => restored(rt, found.state)?,
-        Recovered::Refused(n) => number(rt, n as u64)?,
+    match found {
+        Ok(state) => restored(rt, state)?,
+        Err(refusal) => number(rt, u32::from(refusal))?,
     }
     rt.write_all(b"\n")
 }
@@ -52,7 +36,7 @@ fn row(rt: &impl Print, name: &[u8], plan: &[u8], chip: &[u8]) -> io::Result<()>
 // A row of the small plan that is named by a byte's number.
 fn numbered(rt: &impl Print, name: &[u8], k: usize, chip: &[u8]) -> io::Result<()> {
     rt.write_all(name)?;
-    number(rt, k as u64)?;
+    print!(rt; " {k}")?;
     answer(
         rt,
         b"\x02\x02\x00\x00\x00\x00\x00\x07\x01\x04\x00\x00\x01\x08\x00\x0D\x0E\x09\x07\x00",
@@ -66,9 +50,9 @@ fn stored(rt: &impl Print) -> io::Result<()> {
         b"\xA1\x00\x05\x00\x00\x00\xA3\x11\x00\x0F\x00\x01\x00\x00\x00\x01\x00\x00\x00\x14\x00\x44\x00\x5A\
                   \xA1\x00\x0C\x00\x00\x00\xA3\x11\x00\x0F\x00\x02\x00\x00\x00\x02\x00\x00\x00\x14\x00\x44\x00\x5A";
     let mut chip = [0xffu8; 56];
-    for k in 0..48 {
+    for (k, byte) in saves.iter().enumerate() {
         numbered(rt, b"stored", k, &chip)?;
-        chip[k] = saves[k];
+        chip[k] = *byte;
     }
     numbered(rt, b"stored", 48, &chip)
 }

@@ -7,26 +7,20 @@
 mod journals;
 mod runs;
 
-use program::Checked;
+use program::Sizes;
+use program::refusal::Refusal;
+use runs::number;
 use std::io;
 
-fn number(rt: &impl Print, n: u32) -> io::Result<()> {
-    print!(rt; " {n}")
-}
-
-fn answer(rt: &impl Print, c: Checked) -> io::Result<()> {
-    match c {
-        Checked::Program {
-            cells,
-            instructions,
-            excludes,
-        } => {
+fn answer(rt: &impl Print, checked: Result<Sizes, Refusal>) -> io::Result<()> {
+    match checked {
+        Ok(sizes) => {
             number(rt, 0)?;
-            number(rt, cells)?;
-            number(rt, instructions)?;
-            number(rt, excludes)
+            number(rt, sizes.cells)?;
+            number(rt, sizes.instructions)?;
+            number(rt, sizes.excludes)
         }
-        Checked::Refused(n) => number(rt, n),
+        Err(refusal) => number(rt, u32::from(refusal)),
     }
 }
 

@@ -2,36 +2,34 @@
 // output buffer full, or `refused` and the number), its steps, readings taken and outputs written, the
 // outputs, and the bytes of the chip; for document 001's programs, the number of its cells and of those in each save.
 use journal::owners::owner_of;
-use run::{Ended, run_value};
+use program::refusal::Refusal;
+use run::{Ran, run_value};
 use std::io;
 use step::{Regs, State};
 
-fn number(rt: &impl Print, n: u64) -> io::Result<()> {
+pub fn number(rt: &impl Print, n: u32) -> io::Result<()> {
     print!(rt; " {n}")
 }
 
-// A signed number.
-fn value(rt: &impl Print, v: i32) -> io::Result<()> {
-    print!(rt; " {v}")
-}
-
-fn ended(rt: &impl Print, e: Ended) -> io::Result<()> {
-    match e {
-        Ended::Refused(n) => {
-            rt.write_all(b" refused")?;
-            number(rt, n as u64)
+// A refused run has no numbers, so 0 stands for each.
+fn answer(rt: &impl Print, ran: Result<Ran, Refusal>) -> io::Result<()> {
+    match ran {
+        Ok(ran) => {
+            let ended = ran.ended;
+            print!(rt; " {ended} {} {} {}", ran.steps, ran.taken, ran.written)
         }
-        Ended::Stopped(k) => number(rt, k as u64),
-        Ended::Spent => number(rt, 4),
-        Ended::NoReading => number(rt, 5),
-        Ended::BufferFull => number(rt, 6),
+        Err(refusal) => {
+            rt.write_all(b" refused")?;
+            number(rt, u32::from(refusal))?;
+            print!(rt; " 0 0 0")
+        }
     }
 }
 
 fn values(rt: &impl Print, outputs: &[i32]) -> io::Result<()> {
     rt.write_all(b" outputs")?;
-    for v in outputs {
-        value(rt, *v)?;
+    for value in outputs {
+        print!(rt; " {value}")?;
     }
     Ok(())
 }
@@ -43,7 +41,7 @@ fn bytes(rt: &impl Print, chip: &[u8]) -> io::Result<()> {
     }
     rt.write_all(b" chip")?;
     for byte in chip {
-        number(rt, *byte as u64)?;
+        print!(rt; " {byte}")?;
     }
     Ok(())
 }
@@ -86,13 +84,10 @@ fn run(
     if 512 < words {
         return Ok(());
     }
-    let r = run_value(s, plan, &sets[..words], chip, readings, outputs, budget);
+    let ran = run_value(s, plan, &sets[..words], chip, readings, outputs, budget);
     rt.write_all(name)?;
     rt.write_all(b":")?;
-    ended(rt, r.ended)?;
-    number(rt, r.steps)?;
-    number(rt, r.taken as u64)?;
-    number(rt, r.written as u64)?;
+    answer(rt, ran)?;
     values(rt, outputs)?;
     bytes(rt, chip)?;
     rt.write_all(b"\n")
@@ -260,7 +255,7 @@ fn sizes(rt: &impl Print, chip: &[u8]) -> io::Result<()> {
             cells += 1;
             at += 6;
         } else if chip[at] == 0xa3 {
-            number(rt, cells)?;
+            print!(rt; " {cells}")?;
             cells = 0;
             at += 18;
         } else {
@@ -274,10 +269,11 @@ fn sizes(rt: &impl Print, chip: &[u8]) -> io::Result<()> {
 pub fn program(rt: &impl Print, name: &[u8], plan: &[u8], readings: &[i32]) -> io::Result<()> {
     let mut dead = [0u64; 2048];
     let mut sets = [0u64; 512];
-    analysis::analyse(plan, &mut dead, &mut sets);
+    // What it refuses, the run refuses too.
+    let _ = analysis::analyse(plan, &mut dead, &mut sets);
     let mut chip = [0xffu8; 8000];
     let mut outputs = [0i32; 25];
-    let r = run_value(
+    let ran = run_value(
         state(plan, 0, 0, 0),
         plan,
         &sets,
@@ -288,13 +284,10 @@ pub fn program(rt: &impl Print, name: &[u8], plan: &[u8], readings: &[i32]) -> i
     );
     rt.write_all(name)?;
     rt.write_all(b" run:")?;
-    ended(rt, r.ended)?;
-    number(rt, r.steps)?;
-    number(rt, r.taken as u64)?;
-    number(rt, r.written as u64)?;
+    answer(rt, ran)?;
     values(rt, &outputs)?;
-    rt.write_all(b" saves of")?;
-    number(rt, instruction::byte_at(plan, 0) as u64 + 1)?;
+    let cells = instruction::byte_at(plan, 0) as u64 + 1;
+    print!(rt; " saves of {cells}")?;
     sizes(rt, &chip)?;
     rt.write_all(b"\n")
 }

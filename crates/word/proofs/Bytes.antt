@@ -1,9 +1,10 @@
 -- Numbers as little-endian bytes, at any width: a number and its bytes determine each other, what was stored is loaded, and what stands apart stays.
--- The code loads and stores twice half the width: `load_split`, `store-halves`.
+-- The code stores by `to_le_bytes` and a copy: `le-bytes`, `store_mid`.
 -- Assumes nothing.
-use Rattle.std.proofs.Common.{◌≡◌, ℕ, zero, suc, ◌+◌, ◌*◌, ◌/◌, ◌%◌, ◌^◌, ◌<◌, ◌≤◌, ◌⊎◌, List, [], ◌∷◌, length, get_or, take, drop, set, sym, refl, ap, ◌∙◌, inl, inr, ⊎_elim, append_assoc, add-zero, mod-eq_of_lt, mul_assoc, div-lt_iff_lt-mul, suc-add, pow-suc, zero-add, div-one, add-one, arith, length-take-le, drop-cons, get_or-set_other, take_at, drop_at, shr-shr}
-use native.Mathlib.Nat.{pow-succ', one-le-pow, div-div-eq-div-mul}
-use lib.Arith.{mod-mul}
+use Rattle.std.proofs.Common.{◌≡◌, ℕ, zero, suc, ◌+◌, ◌*◌, ◌/◌, ◌%◌, ◌^◌, ◌<◌, ◌≤◌, ◌⊎◌, List, [], ◌∷◌, length, get_or, take, drop, set, sym, refl, ap, ◌∙◌, inl, inr, ⊎_elim, append_assoc, mod-eq_of_lt, div-lt_iff_lt-mul, pow-suc, div-one, add-one, arith, length-take-le, drop-cons, get_or-set_other, take_at, drop_at, drop-drop, shr-shr}
+use native.Mathlib.Nat.{div-div-eq-div-mul}
+use borrow.Rule.Slice.PartMut.{put_mid}
+use Rattle.std.specs.Int.{bytes_low_first}
 use lib.Seq.{length-sets, sets-eq, set-get_or}
 use Rattle.word.specs.Bytes.{byte_of, bytes_of, number_of, load_of, store_of}
 
@@ -77,14 +78,6 @@ unfolding load_of
 load_same zero s t at h = refl
 load_same (suc n) s t at h = omega (arith, h at (omega arith) (omega arith), load_same n s t (at + 1) (λ j l k. h j (omega arith) (omega arith)))
 
--- a load is that of the low m bytes and, 256 ^ m times, that of the n bytes above them
-pub load_split : (m n : ℕ) (s : List ℕ) (at : ℕ) → load_of (m + n) s at ≡ load_of m s at + 256 ^ m * load_of n s (at + m)
-unfolding load_of
-load_split zero n s at = rw (zero-add n, add-zero at) (omega arith)
-load_split (suc m) n s at =
-    let e : at + suc m ≡ at + 1 + m = omega arith in
-    rw (suc-add m n, e, pow-succ' 256 m, mul_assoc 256 (256 ^ m) (load_of n s (at + 1 + m))) (omega (arith, load_split m n s (at + 1)))
-
 -- a load of one byte is that byte
 pub load_one : (s : List ℕ) (at : ℕ) → load_of 1 s at ≡ get_or s at 0
 unfolding load_of
@@ -114,27 +107,33 @@ store_bytes n s at v h =
     let t = length-take-le at s (omega arith) in
     rw (sets-eq (bytes_of n v) s at, append_assoc, drop_at, take_at)
 
--- a store is that of the low m bytes, then that of the n bytes above them: division by 256 ^ suc m is division by 256 and then by 256 ^ m
-pub store_split : (m n : ℕ) (s : List ℕ) (at v : ℕ) → store_of (m + n) s at v ≡ store_of n (store_of m s at (v % 256 ^ m)) (at + m) (v / 256 ^ m)
-unfolding store_of bytes_of
-store_split zero n s at v = rw (zero-add n, add-zero at, div-one v)
-store_split (suc m) n s at v =
-    let r : v % 256 ^ suc m ≡ v / 256 % 256 ^ m * 256 + v % 256 = rw (pow-suc 256 m) (mod-mul v (one-le-pow m 256 (omega arith)) (omega arith)) in
-    let l : v % 256 ^ suc m % 256 ≡ v % 256 = omega arith in
-    let u : v % 256 ^ suc m / 256 ≡ v / 256 % 256 ^ m = omega arith in
-    let q : v / 256 ^ suc m ≡ v / 256 / 256 ^ m = rw (pow-succ' 256 m) (sym (div-div-eq-div-mul v 256 (256 ^ m))) in
-    let e : at + suc m ≡ suc at + m = omega arith in
-    rw (suc-add m n, e, l, u, q) (store_split m n (set s at (v % 256)) (suc at) (v / 256))
-
 -- a store of one byte sets it
 pub store-one : (s : List ℕ) (at b : ℕ) → b < 256 → store_of 1 s at b ≡ set s at b
 unfolding store_of bytes_of
 store-one s at b h = rw (mod-eq_of_lt h)
 
--- two stores of n bytes, of the low and the high half of v
-pub store-halves : (n : ℕ) (s : List ℕ) (at v : ℕ) {t u : List ℕ} {low next high : ℕ} → t ≡ store_of n s at low → u ≡ store_of n t next high
-    → low ≡ v % 256 ^ n → next ≡ at + n → high ≡ v / 256 ^ n → u ≡ store_of (n + n) s at v
-store-halves n s at v e f l a h = f ∙ (λ i. store_of n ((e ∙ ap (store_of n s at) l) i) (a i) (h i)) ∙ sym (store_split n n s at v)
+-- ---- std's bytes
+
+-- k bytes of v from byte i on are those of what stands above the i lowest
+low_first : (i k v : ℕ) → bytes_low_first i k v ≡ bytes_of k (v / 256 ^ i)
+unfolding bytes_of
+low_first i zero v = refl
+low_first zero (suc k) v = rw div-one (ap (λ (l : List ℕ). v % 256 ∷ l) (low_first 1 k v ∙ ap (bytes_of k) (omega arith)))
+low_first (suc i) (suc k) v =
+    let e : v / 256 ^ suc i / 256 ≡ v / 256 ^ suc (suc i) = div-div-eq-div-mul v (256 ^ suc i) 256 ∙ ap (λ (m : ℕ). v / m) (sym (pow-suc 256 (suc i))) in
+    rw e (ap (λ (l : List ℕ). v / 256 ^ suc i % 256 ∷ l) (low_first (suc (suc i)) k v))
+
+-- the bytes that `to_le_bytes` gives
+pub le-bytes : (k v : ℕ) → bytes_low_first 0 k v ≡ bytes_of k v
+le-bytes k v = low_first 0 k v ∙ ap (bytes_of k) (div-one v)
+
+-- bytes copied onto a part of a list are a store
+pub store_mid : (n k : ℕ) (s ys : List ℕ) (at v : ℕ) → k ≡ n → ys ≡ bytes_of n v → at + n ≤ length s → put_mid at k s ys ≡ store_of n s at v
+unfolding store_of
+store_mid n k s ys at v e f h =
+    let l = length-bytes n v in
+    let g : at + length (bytes_of n v) ≤ length s = rw l h in
+    rw (e, f, sets-eq (bytes_of n v) s at, l, drop-drop, append_assoc) refl
 
 -- ---- a load after a store
 

@@ -1,12 +1,13 @@
 -- From ℤ to ℕ: each operation of specs/Word.antt, as the code computes it on patterns. `val-ind` splits a value by its sign, `sub-ind` and `neg-ind` split the
 -- operations of ℤ that test their operands, and `omega` does each case.
 -- Assumes nothing.
-use Rattle.std.proofs.Common.{◌≡◌, ℕ, zero, suc, ◌+◌, ◌-◌, ◌/◌, ◌%◌, ◌^◌, ◌<◌, ◌≤◌, Bool, true, false, cond, not, T, ltb, ℤ, pos, negsuc, ◌+ℤ◌, neg_ℤ, nat_abs, sym, refl, ap, ◌∙◌, mod-eq_of_lt, div-le_self, arith, ltb→lt, nltb→le, le-ltb, lt-ltb}
-use mathlib.Core.Bool.{beq}
+use Rattle.std.proofs.Common.{◌≡◌, ℕ, zero, suc, ◌+◌, ◌-◌, ◌/◌, ◌%◌, ◌^◌, ◌<◌, ◌≤◌, Bool, true, false, cond, not, T, ltb, ℤ, pos, negsuc, ◌+ℤ◌, neg_ℤ, nat_abs, sym, refl, ap, ◌∙◌, div-le_self, arith, ltb→lt, nltb→le}
 use lib.IntN.{sub_ℕ}
-use lib.Signed.{non_neg, lt_z, quot_z}
-use mir.Val.{sel}
-use Rattle.word.specs.Word.{val, mod_z, bits_of, add_of, sub_of, div_of, less_of, place_of}
+use lib.Signed.{quot_z}
+use mir.Val.{sel, to_z, of_z}
+use mir.Syntax.{w32}
+use Rattle.std.proofs.lemmas.Int.{of_z-to_z}
+use Rattle.word.specs.Word.{val, mod_z, bits_of, add_of, sub_of, div_of, place_of}
 
 -- ---- splitting
 
@@ -31,6 +32,9 @@ pub neg-ind : (P : ℤ → Type 0) (n : ℕ) → (n ≡ 0 → P (pos 0)) → ((k
 neg-ind P zero f g = f refl
 neg-ind P (suc n) f g = g n refl
 
+abs-neg : (n : ℕ) → nat_abs (neg_ℤ (pos n)) ≡ n
+abs-neg n = neg-ind (λ z. nat_abs z ≡ n) n (λ e. sym e) (λ k e. sym e)
+
 -- a pattern below half is its value
 pub val_pos : (n : ℕ) → n < 2 ^ 31 → val n ≡ pos n
 val_pos n h = val-ind (λ x. x ≡ pos n) n (λ k. refl) (λ k. absurd (omega arith))
@@ -44,6 +48,11 @@ val-neg n h = val-ind (λ x. x ≡ negsuc (2 ^ 32 - suc n)) n (λ k. absurd (ome
 -- a pattern is that of its value
 pub bits-val : (n : ℕ) → n < 2 ^ 32 → bits_of (val n) ≡ n
 bits-val n f = val-ind (λ x. bits_of x ≡ n) n (λ h. omega arith) (λ h. omega arith)
+
+-- whatever the integer, its pattern has 32 bits
+pub bits-lt : (z : ℤ) → bits_of z < 2 ^ 32
+bits-lt (pos n) = omega arith
+bits-lt (negsuc n) = omega arith
 
 -- the pattern of any sum is the wrapped sum of the patterns
 pub bits-add : (x y : ℤ) → bits_of (x +ℤ y) ≡ (bits_of x + bits_of y) % 2 ^ 32
@@ -69,73 +78,44 @@ pub sub-law : (a b : ℕ) → a < 2 ^ 32 → b < 2 ^ 32 → sub_of a b ≡ (a + 
 unfolding sub_of
 sub-law a b f g = omega (arith, bits-add (val a) (neg_ℤ (val b)), bits-neg (val b), bits-val a f, bits-val b g)
 
--- ---- DIV, by the magnitudes and the signs
+-- ---- DIV
 
--- the code's test of a sign
-sign : (n : ℕ) → non_neg (val n) ≡ ltb n (2 ^ 31)
-sign n = val-ind (λ x. non_neg x ≡ ltb n (2 ^ 31)) n (λ h. sym (lt-ltb n (2 ^ 31) h)) (λ h. sym (le-ltb n (2 ^ 31) h))
+-- a quotient toward zero has the quotient of the magnitudes
+abs-quot : (x y : ℤ) → nat_abs (quot_z x y) ≡ nat_abs x / nat_abs y
+abs-quot (pos a) (pos b) = refl
+abs-quot (pos a) (negsuc b) = abs-neg (a / suc b)
+abs-quot (negsuc a) (pos b) = abs-neg (suc a / b)
+abs-quot (negsuc a) (negsuc b) = refl
 
--- a magnitude is at most 2 ^ 31, and above 0 unless the pattern is 0
+-- a magnitude is at most 2 ^ 31
 magnitude-le : (n : ℕ) → n < 2 ^ 32 → nat_abs (val n) ≤ 2 ^ 31
 magnitude-le n f = val-ind (λ x. nat_abs x ≤ 2 ^ 31) n (λ h. omega arith) (λ h. omega arith)
 
-pub magnitude-pos : (n : ℕ) → 0 < n → 0 < nat_abs (val n)
-magnitude-pos n f = val-ind (λ x. 0 < nat_abs x) n (λ h. f) (λ h. omega arith)
+-- the machine's bits of a number in range are its pattern
+bits-of_z : (z : ℤ) → nat_abs z ≤ 2 ^ 31 → of_z w32 z ≡ bits_of z
+bits-of_z (pos n) h = omega arith
+bits-of_z (negsuc n) h = omega arith
 
--- q, or −q where t is false
-abbrev signed : Bool → ℕ → ℤ
-signed t q = cond t (pos q) (neg_ℤ (pos q))
+-- so are those of a quotient
+div-bits : (a b : ℕ) → a < 2 ^ 32 → of_z w32 (quot_z (val a) (val b)) ≡ div_of a b
+unfolding div_of
+div-bits a b f =
+    bits-of_z (quot_z (val a) (val b))
+    (omega (arith, abs-quot (val a) (val b), div-le_self (nat_abs (val a)) (nat_abs (val b)), magnitude-le a f))
 
--- a quotient toward zero is that of the magnitudes, with its sign
-quot-signs : (x y : ℤ) → quot_z x y ≡ signed (beq (non_neg x) (non_neg y)) (nat_abs x / nat_abs y)
-quot-signs (pos a) (pos b) = refl
-quot-signs (pos a) (negsuc b) = refl
-quot-signs (negsuc a) (pos b) = refl
-quot-signs (negsuc a) (negsuc b) = refl
+pub div-lt : (a b : ℕ) → div_of a b < 2 ^ 32
+unfolding div_of
+div-lt a b = bits-lt (quot_z (val a) (val b))
 
-module _ (a b : ℕ) (f : a < 2 ^ 32) where
-  -- so the quotient is a pattern itself
-  quotient_le : nat_abs (val a) / nat_abs (val b) ≤ 2 ^ 31
-  quotient_le = omega (arith, div-le_self (nat_abs (val a)) (nat_abs (val b)), magnitude-le a f)
-
-  -- t is the code's test whether the signs agree
-  div-signs : (t : Bool) → beq (ltb a (2 ^ 31)) (ltb b (2 ^ 31)) ≡ t → div_of a b ≡ bits_of (signed t (nat_abs (val a) / nat_abs (val b)))
-  unfolding div_of
-  div-signs t e =
-      let same = (λ i. beq (sign a i) (sign b i)) ∙ e in
-      ap bits_of (quot-signs (val a) (val b) ∙ ap (λ (u : Bool). signed u (nat_abs (val a) / nat_abs (val b))) same)
-
-  -- values of one sign
-  pub div_same : beq (ltb a (2 ^ 31)) (ltb b (2 ^ 31)) ≡ true → div_of a b ≡ nat_abs (val a) / nat_abs (val b)
-  div_same e = div-signs true e ∙ mod-eq_of_lt (omega (arith, quotient_le))
-
-  -- values of two signs: r is minus the quotient
-  pub div-other : (r : ℕ) → r < 2 ^ 32 → beq (ltb a (2 ^ 31)) (ltb b (2 ^ 31)) ≡ false
-      → (r + nat_abs (val a) / nat_abs (val b)) % 2 ^ 32 ≡ 0 → r ≡ div_of a b
-  div-other r g e h = omega (arith, div-signs false e, bits-neg (pos (nat_abs (val a) / nat_abs (val b))), quotient_le)
-
--- ---- LESS
-
--- with 2 ^ 31 added to both sides, the order of the patterns is that of the values
-pub less-law : (a b : ℕ) → a < 2 ^ 32 → b < 2 ^ 32 → less_of a b ≡ ltb ((a + 2 ^ 31) % 2 ^ 32) ((b + 2 ^ 31) % 2 ^ 32)
-unfolding less_of
-less-law a b f g =
-    val-ind (λ x. lt_z x (val b) ≡ test) a
-    (λ h. val-ind (λ y. lt_z (pos a) y ≡ test) b
-    (λ k. ltb-ind (λ t. t ≡ test) a b (λ l. holds (omega arith)) (λ l. fails (omega arith)))
-    (λ k. fails (omega arith)))
-    (λ h. val-ind (λ y. lt_z (negsuc (2 ^ 32 - suc a)) y ≡ test) b
-    (λ k. holds (omega arith))
-    (λ k. ltb-ind (λ t. t ≡ test) (2 ^ 32 - suc b) (2 ^ 32 - suc a) (λ l. holds (omega arith)) (λ l. fails (omega arith))))
-  where
-    test : Bool
-    test = ltb ((a + 2 ^ 31) % 2 ^ 32) ((b + 2 ^ 31) % 2 ^ 32)
-
-    holds : (a + 2 ^ 31) % 2 ^ 32 < (b + 2 ^ 31) % 2 ^ 32 → true ≡ test
-    holds l = sym (lt-ltb _ _ l)
-
-    fails : (b + 2 ^ 31) % 2 ^ 32 ≤ (a + 2 ^ 31) % 2 ^ 32 → false ≡ test
-    fails l = sym (le-ltb _ _ l)
+-- what the code makes of a and b, through the machine's bits
+pub div-law : (a b : ℕ) → a < 2 ^ 32 → b < 2 ^ 32 → {x y q : ℤ} {r : ℕ} → x ≡ val a → y ≡ val b
+    → q ≡ to_z w32 (of_z w32 (quot_z (to_z w32 (of_z w32 x)) (to_z w32 (of_z w32 y)))) → r ≡ of_z w32 (to_z w32 (of_z w32 q)) → r ≡ div_of a b
+div-law a b f g e h k l =
+    let u = of_z-to_z w32 a f in
+    let v = of_z-to_z w32 b g in
+    let d = div-bits a b f in
+    let w = of_z-to_z w32 (div_of a b) (div-lt a b) in
+    cc
 
 -- ---- GET, PUT
 

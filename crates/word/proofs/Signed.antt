@@ -4,17 +4,13 @@ use Rattle.std.proofs.Common.{◌≡◌, ℕ, suc, ◌-◌, ◌%◌, ◌^◌, �
 use lib.Signed.{mag, quot_z}
 use Rattle.word.specs.Word.{val, mod_z, bits_of, add_of, sub_of, div_of, place_of}
 use Rattle.word.proofs.Laws.{val_pos, val-neg}
--- a pattern is that of its value
-pub use Rattle.word.proofs.Laws.{bits-val}
+-- a pattern is that of its value and has 32 bits, and so has a quotient
+pub use Rattle.word.proofs.Laws.{bits-val, bits-lt, div-lt}
 
 -- what is taken modulo m is below m
 mod-lt-len : (z : ℤ) (m : ℕ) → 0 < m → mod_z z m < m
 mod-lt-len (pos n) m h = mod-lt n h
 mod-lt-len (negsuc n) m h = omega arith
-
--- whatever the integer, its pattern has 32 bits
-pub bits-lt : (z : ℤ) → bits_of z < 2 ^ 32
-bits-lt z = mod-lt-len z (2 ^ 32) (omega arith)
 
 -- a number in range is the value of its pattern
 pub val-bits : (z : ℤ) → mag z < 2 ^ 31 → val (bits_of z) ≡ z
@@ -46,10 +42,6 @@ add-lt a b = bits-lt (val a +ℤ val b)
 pub sub-lt : (a b : ℕ) → sub_of a b < 2 ^ 32
 unfolding sub_of
 sub-lt a b = bits-lt (val a -ℤ val b)
-
-pub div-lt : (a b : ℕ) → div_of a b < 2 ^ 32
-unfolding div_of
-div-lt a b = bits-lt (quot_z (val a) (val b))
 
 -- a place is in the table
 pub place-lt : (i len : ℕ) → 0 < len → place_of i len < len

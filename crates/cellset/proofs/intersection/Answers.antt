@@ -1,0 +1,11 @@
+-- `&` is `min` at each bit.
+use Rattle.std.proofs.Common.{min, rules}
+use lib.Bits.{bit_and, and_lt}
+use Rattle.cellset.proofs.Bits.{bit-and}
+use Rattle.cellset.proofs.Words.{wordwise}
+use Rattle.cellset.proofs.intersection.Goals as goal
+
+pub returns : goal.returns
+returns c =
+    wordwise bit_and min (and_lt 64) (λ k u v _ _. bit-and u v k) c.args.a.words c.args.b.words (λ i. search rules) (λ i. search rules)
+    c.zip_words.result.words c.zip_words.ensures.0 (λ i l. search (rules, c.zip_words.ensures.1 i l))

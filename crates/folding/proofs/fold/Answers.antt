@@ -1,0 +1,13 @@
+-- Check's refusal, or what is left for an accepted program.
+use Rattle.std.proofs.lemmas.Result.{err_from_is_err_and}
+use Rattle.folding.proofs.Putting.{refused-program}
+use Rattle.folding.proofs.Ruling.{fold_is}
+use Rattle.folding.proofs.fold.Goals as goal
+
+pub returns-in_err-examine : goal.returns-in_err-examine
+returns-in_err-examine c =
+    let p = err_from_is_err_and c.from_residual.result c.from_residual.ensures.1 in
+    rw (p.1, p.2) (fold_is _ _ _ _ _ _ (refused-program _ _ _ _ _ _ c.in_err-examine.ensures.checks))
+
+pub returns : goal.returns
+returns c = fold_is _ _ _ _ _ _ c.fold_legal.ensures

@@ -1,0 +1,9 @@
+-- `marks::keep` meets its contract: the closure computes the rule.
+-- Assumes nothing.
+use Rattle.std.proofs.Common.{rules}
+use Rattle.marks.specs.Marks.{saved_marks}
+use Rattle.marks.proofs.keep.Goals as goal
+
+pub returns : goal.returns
+unfolding saved_marks
+returns c = c.update.ensures _ (λ k m r h p. search rules)

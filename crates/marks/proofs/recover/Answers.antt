@@ -1,0 +1,9 @@
+-- `marks::recover` meets its contract: the closure computes the rule.
+-- Assumes nothing.
+use Rattle.std.proofs.Common.{rules}
+use Rattle.marks.specs.Marks.{recovered_marks}
+use Rattle.marks.proofs.recover.Goals as goal
+
+pub returns : goal.returns
+unfolding recovered_marks
+returns c = c.update.ensures _ (λ k m r h p. search rules)

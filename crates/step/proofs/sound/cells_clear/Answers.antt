@@ -1,0 +1,13 @@
+-- `step::sound::cells_clear`: 256 cells have a sum that fits.
+-- Assumes nothing.
+use Rattle.std.proofs.Common.{rules, tests, arith}
+use Rattle.std.proofs.lemmas.Iterator.{YieldsList-from_slice, YieldsList-from_map}
+use Rattle.std.proofs.lemmas.Iterator.Consumers.{fits_by_from_yields_list}
+use Rattle.step.proofs.Soundness.{sum-most}
+use Rattle.step.proofs.sound.cells_clear.Goals as goal
+
+pub sum-requires-clause-fits : goal.sum-requires-clause-fits
+sum-requires-clause-fits c =
+    fits_by_from_yields_list (λ x. x) c.args.cells.now c.map.result _
+    (YieldsList-from_map _ (λ x. x) (YieldsList-from_slice c.args.cells.now cc) c.map.ensures.closure (λ x r q k. search (rules, tests)))
+    (omega (arith, sum-most (λ x. x) 4294967295 c.args.cells.now (λ k. omega (arith, c.type_inv.cells k))))
