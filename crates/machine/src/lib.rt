@@ -6,14 +6,15 @@
 // After a refusal that is the state at entry.
 #![tactic(auto)]
 
+ghost use Rattle.std.specs.Prelude.{◌≡◌, List, ℕ, ℤ};
 ghost use Rattle.step.specs.State.{env_of, machine_of};
-ghost use Rattle.run.specs.Run.{CallIs};
+ghost use Rattle.run.specs.Run.{ran, CallIs};
 ghost use Rattle.recovery.specs.Recover.{RecoverIs};
 ghost use Rattle.machine.specs.Lent.{passed, restored};
 
 use program::refusal::Refusal;
 use recovery::recover_value;
-use run::{Ended, run_value};
+use run::{Ended, Ran, run_value, step_value};
 use step::State;
 
 // What a call of step or run answers: how the run ended, and this call's steps, readings taken and
@@ -24,6 +25,20 @@ pub struct Passed {
     pub steps: u64,
     pub taken: usize,
     pub written: usize,
+}
+
+// Stores the state that a step or a run gives back, if any, and answers the rest.
+fn kept(state: &mut State, answer: Result<Ran, Refusal>) -> Result<Passed, Refusal>
+    ensures { (l : List ℕ) (outs : List ℤ) → passed result (machine_of state.new.regs state.new.cells state.new.marks l) outs ≡ ran (machine_of state.old.regs state.old.cells state.old.marks l) answer l outs }
+{
+    let ran = answer?;
+    *state = ran.state;
+    Ok(Passed {
+        ended: ran.ended,
+        steps: ran.steps,
+        taken: ran.taken,
+        written: ran.written,
+    })
 }
 
 // One step, in the state lent.
@@ -37,7 +52,8 @@ pub fn step(
 ) -> Result<Passed, Refusal>
     ensures { CallIs (env_of program.now sets.now) readings.now 1 (machine_of state.old.regs state.old.cells state.old.marks journal.old) outputs.old (passed result (machine_of state.new.regs state.new.cells state.new.marks journal.new) outputs.new) }
 {
-    run(state, program, sets, journal, readings, outputs, 1)
+    let answer = step_value(*state, program, sets, journal, readings, outputs);
+    kept(state, answer)
 }
 
 // A run, in the state lent.
@@ -52,14 +68,8 @@ pub fn run(
 ) -> Result<Passed, Refusal>
     ensures { CallIs (env_of program.now sets.now) readings.now budget (machine_of state.old.regs state.old.cells state.old.marks journal.old) outputs.old (passed result (machine_of state.new.regs state.new.cells state.new.marks journal.new) outputs.new) }
 {
-    let ran = run_value(*state, program, sets, journal, readings, outputs, budget)?;
-    *state = ran.state;
-    Ok(Passed {
-        ended: ran.ended,
-        steps: ran.steps,
-        taken: ran.taken,
-        written: ran.written,
-    })
+    let answer = run_value(*state, program, sets, journal, readings, outputs, budget);
+    kept(state, answer)
 }
 
 // Recovery from a journal on a chip with pages of so many bytes, whose MARKs are to name the owner, into the

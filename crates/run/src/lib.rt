@@ -7,7 +7,7 @@ mod quiet;
 mod run;
 mod stretch;
 
-ghost use Rattle.std.specs.Prelude.{◌≡◌, List, ℕ, length, get_or};
+ghost use Rattle.std.specs.Prelude.{◌≡◌, List, ℕ, length, get_or, decimal, Some};
 ghost use Rattle.program.specs.Places.{Places};
 ghost use Rattle.program.specs.Refusal.{number_if};
 ghost use Rattle.step.specs.State.{env_of, machine_of};
@@ -47,6 +47,8 @@ impl From<Ended> for u32 {
 }
 
 impl fmt::Display for Ended {
+    ghost output = { λ ended. Some (decimal (get_or (answer_of (ended_of ended)).values 0 0)) };
+
     fn fmt<W: fmt::Write>(&self, f: &mut fmt::Formatter<W>) -> fmt::Result {
         write!(f, "{}", u32::from(*self))
     }
