@@ -6,7 +6,7 @@ use lib.Count.{ones}
 use Rattle.cellset.proofs.Ranks.{counted, counted-le}
 use Rattle.cellset.proofs.count.Goals as goal
 
--- a list of four is made of its places
+-- a list of four is made of its places: the code as it stands does not need this, a twin of an edit that writes the four words out does
 four : (ws : List ℕ) → length ws ≡ 4 → ws ≡ (slice_index ws 0 ∷ slice_index ws 1 ∷ slice_index ws 2 ∷ slice_index ws 3 ∷ [])
 four [] e = absurd (omega arith)
 four (p ∷ []) e = absurd (omega arith)
