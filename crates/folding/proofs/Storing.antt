@@ -55,10 +55,10 @@ module _ (save new : List ℕ) (k : ℕ) where
   pub not-front : ¬ (take k new ≡ take k save) → ¬ Begun save k new
   not-front h b = h (begun-front b)
 
-  -- the front and the rest decide it
-  pub begun-rests : k ≤ min (length save) (length new) → take k new ≡ take k save → (x : Bool) → Decides (BlankFrom (take (length new - k) (drop k new)) 0) x
-      → Decides (Begun save k new) x
-  begun-rests m d x e = decides x (rw whole at e)
+  -- the front and the rest decide it, whatever way the start of the rest is written
+  pub begun-rests : {start : ℕ} → start ≡ k → k ≤ min (length save) (length new) → take k new ≡ take k save → (x : Bool)
+      → Decides (BlankFrom (take (length new - start) (drop start new)) 0) x → Decides (Begun save k new) x
+  begun-rests s m d x e = decides x (rw whole at rw s at e)
     where
       whole : take (length new - k) (drop k new) ≡ drop k new
       whole = take_all (length new - k) (drop k new) (omega (arith, length-drop k new))

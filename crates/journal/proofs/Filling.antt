@@ -66,14 +66,15 @@ ends-owned l at next owner z n e =
 
 -- ---- the filling
 
--- a part of the buffer that is filled with a byte
-pub part-filled : (l : List ℕ) (from to v : ℕ) {part : List ℕ} → from ≤ to → to ≤ length l → part ≡ replicate (length (mid_of from (to - from) l)) v
-    → put_mid from (to - from) l part ≡ sets l from (replicate (to - from) v)
-part-filled l from to v {part} h m e =
+-- a part of the buffer that is filled with a byte, whatever way its start is written
+pub part-filled : (l : List ℕ) (from to v : ℕ) {start : ℕ} {part : List ℕ} → start ≡ from → from ≤ to → to ≤ length l
+    → part ≡ replicate (length (mid_of start (to - start) l)) v → put_mid start (to - start) l part ≡ sets l from (replicate (to - from) v)
+part-filled l from to v {part = part} s h m e =
     let n = to - from in
-    let r : part ≡ replicate n v = e ∙ ap (λ (k : ℕ). replicate k v) (mid_len from to l m) in
+    let r : part ≡ replicate n v = rw s at e ∙ ap (λ (k : ℕ). replicate k v) (mid_len from to l m) in
     let k : length (replicate n v) ≡ n = length-replicate n v in
-    ap (λ (x : List ℕ). put_mid from n l x) r
+    ap (λ (x : ℕ). put_mid x (to - x) l part) s
+    ∙ ap (λ (x : List ℕ). put_mid from n l x) r
     ∙ ap (λ (x : List ℕ). take from l ++ (replicate n v ++ x)) (drop-drop n from l ∙ ap (λ (x : ℕ). drop (from + x) l) (sym k))
     ∙ sym (append_assoc (take from l) (replicate n v) (drop (from + length (replicate n v)) l))
     ∙ sym (sets-eq (replicate n v) l from (omega (arith, k, h, m)))

@@ -17,7 +17,7 @@ returns-then-eq c =
       | then-stored-min w ↦ (omega arith, (slice_eq-Decides Decides-eqb _ _ _ w.eq.ensures).0 (sym w.value-is ∙ c.if-eq.true))
       | else-stored-min w ↦ absurd (omega (arith, leb-true _ _ (sym w.value-is ∙ c.if-eq.true)))
     ] in
-    begun-rests s.save.now s.new.now s.stored front.0 front.1 c.is_blank.result c.is_blank.ensures
+    begun-rests s.save.now s.new.now s.stored (omega arith) front.0 front.1 c.is_blank.result c.is_blank.ensures
 
 pub returns-else-eq : goal.returns-else-eq
 returns-else-eq c =

@@ -1,6 +1,6 @@
 -- `journal::tail::tail_at`: each return is that of the first byte and of the tests behind it.
 -- Assumes nothing.
-use Rattle.std.proofs.Common.{sym, ◌∙◌, rules}
+use Rattle.std.proofs.Common.{sym, ◌∙◌, arith, rules}
 use Rattle.journal.specs.Format.{format_of, kind_number}
 use Rattle.journal.proofs.Tails.{no_place, none-cut, other-bad, commit-bad, commit-cut, commit-whole, record-bad, record-cut}
 use Rattle.journal.proofs.tail.tail_at.Goals as goal
@@ -21,12 +21,12 @@ returns-then-not-fields_begin c page owner rs o s =
 pub returns-then-l-i-3 : goal.returns-then-l-i-3
 returns-then-l-i-3 c page owner rs o s =
     let f = c.fields_begin in
-    commit-cut c.args.l.now c.args.i f.result c.if-l-i.false (c.if-l-i-2.true ∙ c.lead.ensures) (f.ensures (format_of page (kind_number c.args.kind) owner) c.args.n (sym c.owner_width.ensures)) c.if-not-fields_begin.false (rw c.mark_size.ensures at c.if-l-i-3.true) o
+    commit-cut c.args.l.now c.args.i f.result c.if-l-i.false (c.if-l-i-2.true ∙ c.lead.ensures) (f.ensures (format_of page (kind_number c.args.kind) owner) c.args.n (sym c.owner_width.ensures)) c.if-not-fields_begin.false (omega (arith, c.mark_size.ensures)) o
 
 pub returns-then-l-i-2 : goal.returns-then-l-i-2
 returns-then-l-i-2 c page owner rs o s =
     let f = c.fields_begin in
-    commit-whole c.args.l.now c.args.i f.result (c.if-l-i-2.true ∙ c.lead.ensures) (f.ensures (format_of page (kind_number c.args.kind) owner) c.args.n (sym c.owner_width.ensures)) c.if-not-fields_begin.false (rw c.mark_size.ensures at c.if-l-i-3.false)
+    commit-whole c.args.l.now c.args.i f.result (c.if-l-i-2.true ∙ c.lead.ensures) (f.ensures (format_of page (kind_number c.args.kind) owner) c.args.n (sym c.owner_width.ensures)) c.if-not-fields_begin.false (omega (arith, c.mark_size.ensures))
 
 pub returns-then-cell_begins : goal.returns-then-cell_begins
 returns-then-cell_begins c page owner rs o s =

@@ -44,6 +44,6 @@ pub returns : goal.returns
 returns c owner =
     rw c.mark_size.ensures
     (filling-done (c.loop-cell.invariant owner) c.loop-cell-test.false c.requires.1 (c.commit_into.ensures c.args.page owner) (rw c.mark_size.ensures at c.fill.ensures.0)
-    (part-filled c.commit_into.new.buffer _ _ 0xFF (omega arith)
+    (part-filled c.commit_into.new.buffer _ _ 0xFF (omega (arith, c.mark_size.ensures, kind-few c.args.kind, (c.loop-cell.invariant 0).most, (c.loop-cell.invariant 0).below)) (omega arith)
     (omega (arith, c.commit_into.array_long, kind-few c.args.kind, c.fill.ensures.1, c.requires.3, (c.loop-cell.invariant 0).most, (c.loop-cell.invariant 0).below))
     (rw c.mark_size.ensures at (c.fill-2.ensures.after (λ y e. e)))))
